@@ -1,7 +1,8 @@
 //! The instruction that comes next, where it is known, and what it does.
-ghost use Rattle.std.specs.Prelude.{◌≡◌, ◌%◌, IfOk, IfSome, IfNone, OnErr};
+ghost use Rattle.std.specs.Prelude.{◌≡◌, ◌%◌, ℕ, IfOk, IfSome, IfNone, OnErr};
 ghost use Rattle.guest_memory.specs.Code.{IsInstructionAt};
 ghost use Rattle.guest_memory.specs.Guest.{memory_of};
+ghost use Rattle.guest_memory.specs.declared.reservations.Reservations.{Reservations};
 ghost use Rattle.rv_exec.specs.Effects.{exec_state_of};
 ghost use Rattle.guest_machine.specs.Private.Carrying.{IsReadingOf, IsStateOf, IsStepOf};
 ghost use Rattle.guest_machine.specs.Machine.{MachineState};
@@ -15,27 +16,10 @@ use rv_exec::{Cpu, Outcome, execute, execute_reading};
 use rv_isa::Instr;
 use std::alloc::AllocError;
 
-// The instruction at an address, where there is one whose word can be fetched. The place is where the code of its page is looked
-// for first, and then where it is.
+// The instruction at an address; none if its word can't be fetched or decoded. `place` is afterwards where the code of its page
+// is kept.
 #[inline(always)]
-fn instruction_at(
-    memory: &mut GuestMemory,
-    place: &mut usize,
-    at: Addr,
-) -> Result<Option<Instr>, AllocError>
-    requires { at % 4 ≡ 0 }
-    ensures known { IfOk result (λ found. IfSome found (IsInstructionAt (memory_of memory.old) at)) }
-    ensures kept { memory_of memory.new ≡ memory_of memory.old }
-{
-    match memory.known_instruction(*place, at) {
-        Some(instruction) => Ok(Some(instruction)),
-        None => instruction_elsewhere(memory, place, at),
-    }
-}
-
-// The same, where the code of the page is at another place, or the instruction is not known yet.
-#[inline(never)]
-fn instruction_elsewhere(
+fn find_instruction(
     memory: &mut GuestMemory,
     place: &mut usize,
     at: Addr,
@@ -51,7 +35,7 @@ fn instruction_elsewhere(
     }
 }
 
-// The same, which is decoded, and known from then on.
+// The same for an instruction that is not known: it is decoded, and known from then on.
 #[cold]
 #[inline(never)]
 fn learned_instruction(
@@ -68,7 +52,7 @@ fn learned_instruction(
     Ok(memory.known_instruction(*place, at))
 }
 
-// Carries out the instruction that comes next, where it is no ECALL and does not fault; else nothing changes.
+// Carries out the instruction at the pc; none, and nothing changes, if it is ECALL or faults.
 #[inline(always)]
 pub(crate) fn carry_out(
     cpu: &mut Cpu,
@@ -93,30 +77,22 @@ pub(crate) fn carry_out(
     }
 }
 
-// What became of an instruction if it can't write.
+// What `carry_out_reading` did.
 pub(crate) enum Reading {
     Went { advanced: Advanced },
-    // It may write.
-    Writes,
-    // It can't go on.
+    // It may write, and was not carried out.
+    MayWrite,
+    // It is ECALL or faults.
     Stops,
 }
 
-// Carries out the instruction that comes next, if it can't write and can go on; else nothing changes.
+// Carries out the instruction at the pc if it can't write, is not ECALL and does not fault; else nothing changes.
 #[inline(always)]
-pub(crate) fn carry_out_reading(
-    cpu: &mut Cpu,
-    memory: &GuestMemory,
-    held: &Reservations,
-    tid: Tid,
-    instruction: &Instr,
-) -> Reading
+pub(crate) fn carry_out_reading(cpu: &mut Cpu, memory: &GuestMemory, instruction: &Instr) -> Reading
     requires { IsInstructionAt (memory_of memory.now) cpu.old.pc instruction.now }
-    ensures { IsReadingOf (exec_state_of cpu.old memory.now held.now)
-        (exec_state_of cpu.new memory.now held.now) tid result }
+    ensures { (tid : ℕ) (held : Reservations) → IsReadingOf (exec_state_of cpu.old memory.now held)
+        (exec_state_of cpu.new memory.now held) tid result }
 {
-    let _ = held;
-    let _ = tid;
     let pc = cpu.pc;
     match execute_reading(cpu, memory, *instruction) {
         Some(Outcome::Went { access }) => Reading::Went {
@@ -124,11 +100,11 @@ pub(crate) fn carry_out_reading(
         },
         Some(Outcome::Fault { .. }) => Reading::Stops,
         Some(Outcome::Syscall) => Reading::Stops,
-        None => Reading::Writes,
+        None => Reading::MayWrite,
     }
 }
 
-// Carries out the instruction that comes next, which is looked for first at a place of code.
+// Finds the instruction at the pc and carries it out; none, and nothing changes, if it is not found, is ECALL or faults.
 #[inline(never)]
 pub(crate) fn carry_out_next(
     cpu: &mut Cpu,
@@ -147,7 +123,7 @@ pub(crate) fn carry_out_next(
         ≡ exec_state_of cpu.old memory.old held.old) }
     ensures instruction { IfOk result (λ next. IfSome next IsInstruction) }
 {
-    match instruction_at(memory, place, cpu.pc)? {
+    match find_instruction(memory, place, cpu.pc)? {
         Some(instruction) => Ok(carry_out(cpu, memory, held, tid, instruction)),
         None => Ok(None),
     }

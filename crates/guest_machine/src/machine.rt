@@ -91,8 +91,8 @@ impl Machine {
     }
 
     /// Makes at most `most` steps of a thread that can run, one after the other, while the instruction of each can run and is
-    /// no ECALL, and while the observer takes its events. Out of memory for decoded code or in the observer, nothing
-    /// more is known of either.
+    /// no ECALL, and while the observer takes its events. If decoded code or the observer can't be allocated, no clause says
+    /// what was done.
     pub fn run_known<W: Observer>(
         &mut self,
         tid: Tid,

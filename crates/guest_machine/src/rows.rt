@@ -1,4 +1,4 @@
-//! Steps of one thread in a row, while their instructions are known.
+//! Steps of one thread in a row, as long as their instructions can be known.
 ghost use Rattle.std.specs.Prelude.{◌≡◌, ◌≤◌, ◌<◌, ◌+◌, ◌^◌, ◌++◌, IfOk, OnOk};
 ghost use Rattle.guest_memory.specs.Code.{IsCodeOf};
 ghost use Rattle.guest_memory.specs.Guest.{memory_of};
@@ -27,16 +27,18 @@ pub struct KnownSteps {
     pub observed: Observed,
 }
 
-// Steps of a thread in a row: those that the observer has, those behind them that did nothing beside, and how many may be made
-// behind those that the observer has.
+// How many steps of a thread were made in a row.
 #[derive(Clone, Copy)]
 struct StepRow {
+    // those that the observer has
     told: u64,
+    // those after them, which it has yet to get: they accessed nothing, and were no calls and no returns
     plain: u64,
+    // how many may follow those that the observer has, the plain ones included
     left: u64,
 }
 
-// Hands out a step that did something beside, with the plain ones before it.
+// Hands out a step that also accessed memory, called or returned, with the plain ones before it.
 #[inline(always)]
 fn hand_step<W: Observer>(
     row: &mut StepRow,
@@ -46,7 +48,7 @@ fn hand_step<W: Observer>(
 ) -> Result<Observed, AllocError>
     requires instruction { IsInstruction advanced }
     requires within { row.old.plain < row.old.left }
-    requires fits { row.old.told + row.old.left < 2 ^ 64 }
+    requires range { row.old.told + row.old.left < 2 ^ 64 }
     requires next { MayTakeAll W.stands (W.fits observer.old) observer.old
         (steps_of tid (row.old.plain + 1) ++ done_by tid advanced) }
     ensures row { row.new ≡ handed row.old }
@@ -70,9 +72,11 @@ enum Paused {
     // The observer refused an event of the last.
     Refused,
     // The next instruction may write.
-    Before { instruction: Instr },
-    // The next instruction is not known to be in the page, or can't go on.
+    MayWrite { instruction: Instr },
+    // The next instruction is not known to be in the page.
     Elsewhere,
+    // The next instruction is ECALL or faults.
+    Stops,
 }
 
 // Makes the steps of a row that lie in a page of code, as long as they can't write.
@@ -89,7 +93,7 @@ fn run_page<W: Observer>(
     requires page { IsCodeOf (memory_of memory.now) page.now }
     requires run { MayRun W.stands (W.fits observer.old) tid row.old
         (exec_state_of cpu.old memory.now held.now) observer.old }
-    requires fits { row.old.told + row.old.left < 2 ^ 64 }
+    requires range { row.old.told + row.old.left < 2 ^ 64 }
     ensures runs { RunsOn W.stands (W.fits observer.old) tid
         row.old (exec_state_of cpu.old memory.now held.now) observer.old
         row.new (exec_state_of cpu.new memory.now held.now) observer.new (answer_of result) }
@@ -101,10 +105,10 @@ fn run_page<W: Observer>(
         let Some(instruction) = page.find(cpu.pc) else {
             return Ok(Paused::Elsewhere);
         };
-        let advanced = match carry_out_reading(cpu, memory, held, tid, &instruction) {
+        let advanced = match carry_out_reading(cpu, memory, &instruction) {
             Reading::Went { advanced } => advanced,
-            Reading::Writes => return Ok(Paused::Before { instruction }),
-            Reading::Stops => return Ok(Paused::Elsewhere),
+            Reading::MayWrite => return Ok(Paused::MayWrite { instruction }),
+            Reading::Stops => return Ok(Paused::Stops),
         };
         match advanced {
             Advanced::Ran => row.plain += 1,
@@ -141,7 +145,7 @@ fn run_page_at<W: Observer>(
     requires run { MayRun W.stands (W.fits observer.old) tid row.old
         (exec_state_of cpu.old memory.now held.now) observer.old }
     requires within { row.old.plain < row.old.left }
-    requires fits { row.old.told + row.old.left < 2 ^ 64 }
+    requires range { row.old.told + row.old.left < 2 ^ 64 }
     ensures runs { RunsOn W.stands (W.fits observer.old) tid
         row.old (exec_state_of cpu.old memory.now held.now) observer.old
         row.new (exec_state_of cpu.new memory.now held.now) observer.new (answer_of result) }
@@ -165,7 +169,7 @@ fn count_next<W: Observer>(
 ) -> Result<Further, AllocError>
     requires step { MayCount W.stands (W.fits observer.old) tid row.old next observer.old }
     requires within { row.old.plain < row.old.left }
-    requires fits { row.old.told + row.old.left < 2 ^ 64 }
+    requires range { row.old.told + row.old.left < 2 ^ 64 }
     ensures counts { Counts W.stands (W.fits observer.old) tid row.old next observer.old
         row.new observer.new (further_of result) }
     ensures grows { IfOk result (λ further. further ≡ Further.Went
@@ -200,7 +204,7 @@ fn run_further<W: Observer>(
     requires run { MayRun W.stands (W.fits observer.old) tid row.old
         (exec_state_of cpu.old memory.old held.old) observer.old }
     requires within { row.old.plain < row.old.left }
-    requires fits { row.old.told + row.old.left < 2 ^ 64 }
+    requires range { row.old.told + row.old.left < 2 ^ 64 }
     ensures runs { RunsOn W.stands (W.fits observer.old) tid
         row.old (exec_state_of cpu.old memory.old held.old) observer.old
         row.new (exec_state_of cpu.new memory.new held.new) observer.new (further_of result) }
@@ -211,7 +215,8 @@ fn run_further<W: Observer>(
     match run_page_at(cpu, memory, held, tid, *place, row, observer) {
         Ok(Paused::Done) => Ok(Further::Went),
         Ok(Paused::Refused) => Ok(Further::Refused),
-        Ok(Paused::Before { instruction }) => {
+        Ok(Paused::Stops) => Ok(Further::Stopped),
+        Ok(Paused::MayWrite { instruction }) => {
             let next = carry_out(cpu, memory, held, tid, instruction);
             count_next(row, tid, next, observer)
         }

@@ -29,7 +29,7 @@ pub enum Advanced {
     Accessed {
         access: Access,
     },
-    /// An instruction went that was a call or a return: it jumped to the target, from before the address `back`.
+    /// An instruction went that was a call or a return: it jumped to the target, from the instruction before `back`.
     Jumped {
         jump: JumpKind,
         target: Addr,

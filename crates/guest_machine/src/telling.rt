@@ -127,7 +127,7 @@ fn hand_jump<W: Observer>(
 
 // Hands out `steps` steps of a thread, and the accesses of the last.
 #[inline(always)]
-fn observe_access<W: Observer>(
+fn inline_access<W: Observer>(
     tid: Tid,
     steps: u64,
     access: Access,
@@ -146,7 +146,7 @@ fn observe_access<W: Observer>(
 
 // Hands out `steps` steps of a thread, and the calls and the returns of the last.
 #[inline(always)]
-fn observe_jump<W: Observer>(
+fn inline_jump<W: Observer>(
     tid: Tid,
     steps: u64,
     jump: JumpKind,
@@ -165,7 +165,7 @@ fn observe_jump<W: Observer>(
     hand_jump(tid, jump, target, back, observer)
 }
 
-// Hands out `steps` steps of a thread, and the words that the last read. Each kind of event has a function of its own, which
+// Hands out `steps` steps of a thread, the last of which read these words. Each kind of event has a function of its own, which
 // stands apart: the code of the loop over known instructions is then short enough to be inlined.
 #[inline(never)]
 fn observe_read<W: Observer>(
@@ -182,10 +182,10 @@ fn observe_read<W: Observer>(
         (steps_of tid steps ++ Read tid first count ∷ []) observer.old observer.new) }
     ensures same { W.fits observer.new ≡ W.fits observer.old }
 {
-    observe_access(tid, steps, Access::Read { first, count }, observer)
+    inline_access(tid, steps, Access::Read { first, count }, observer)
 }
 
-// Hands out `steps` steps of a thread, and the words that the last wrote.
+// Hands out `steps` steps of a thread, the last of which wrote these words.
 #[inline(never)]
 fn observe_write<W: Observer>(
     tid: Tid,
@@ -201,10 +201,10 @@ fn observe_write<W: Observer>(
         (steps_of tid steps ++ Write tid first count ∷ []) observer.old observer.new) }
     ensures same { W.fits observer.new ≡ W.fits observer.old }
 {
-    observe_access(tid, steps, Access::Write { first, count }, observer)
+    inline_access(tid, steps, Access::Write { first, count }, observer)
 }
 
-// Hands out `steps` steps of a thread, and the word that the last read and then wrote.
+// Hands out `steps` steps of a thread, the last of which read this word and then wrote it.
 #[inline(never)]
 fn observe_both<W: Observer>(
     tid: Tid,
@@ -219,10 +219,10 @@ fn observe_both<W: Observer>(
         (steps_of tid steps ++ Read tid word 1 ∷ Write tid word 1 ∷ []) observer.old observer.new) }
     ensures same { W.fits observer.new ≡ W.fits observer.old }
 {
-    observe_access(tid, steps, Access::Both { word }, observer)
+    inline_access(tid, steps, Access::Both { word }, observer)
 }
 
-// Hands out `steps` steps of a thread, and the call of the last.
+// Hands out `steps` steps of a thread, the last of which is a call.
 #[inline(never)]
 fn observe_call<W: Observer>(
     tid: Tid,
@@ -238,10 +238,10 @@ fn observe_call<W: Observer>(
         (steps_of tid steps ++ Call tid entry back ∷ []) observer.old observer.new) }
     ensures same { W.fits observer.new ≡ W.fits observer.old }
 {
-    observe_jump(tid, steps, JumpKind::Push, entry, back, observer)
+    inline_jump(tid, steps, JumpKind::Push, entry, back, observer)
 }
 
-// Hands out `steps` steps of a thread, and the return of the last.
+// Hands out `steps` steps of a thread, the last of which is a return.
 #[inline(never)]
 fn observe_return<W: Observer>(
     tid: Tid,
@@ -256,12 +256,12 @@ fn observe_return<W: Observer>(
         (steps_of tid steps ++ Ret tid target ∷ []) observer.old observer.new) }
     ensures same { W.fits observer.new ≡ W.fits observer.old }
 {
-    observe_jump(tid, steps, JumpKind::Pop, target, 0, observer)
+    inline_jump(tid, steps, JumpKind::Pop, target, 0, observer)
 }
 
-// Hands out `steps` steps of a thread, and the return of the last, which is a call too.
+// Hands out `steps` steps of a thread, the last of which returns and then calls.
 #[inline(never)]
-fn observe_swap<W: Observer>(
+fn observe_return_and_call<W: Observer>(
     tid: Tid,
     steps: u64,
     target: Addr,
@@ -275,12 +275,12 @@ fn observe_swap<W: Observer>(
         (steps_of tid steps ++ Ret tid target ∷ Call tid target back ∷ []) observer.old observer.new) }
     ensures same { W.fits observer.new ≡ W.fits observer.old }
 {
-    observe_jump(tid, steps, JumpKind::PopPush, target, back, observer)
+    inline_jump(tid, steps, JumpKind::PopPush, target, back, observer)
 }
 
 // Hands out `steps` steps of a thread, and the accesses of the last, each kind by its own function.
 #[inline(always)]
-fn tell_access<W: Observer>(
+fn observe_access<W: Observer>(
     tid: Tid,
     steps: u64,
     access: Access,
@@ -294,7 +294,7 @@ fn tell_access<W: Observer>(
     ensures same { W.fits observer.new ≡ W.fits observer.old }
 {
     match access {
-        Access::Nothing => observe_access(tid, steps, Access::Nothing, observer),
+        Access::Nothing => inline_access(tid, steps, Access::Nothing, observer),
         Access::Read { first, count } => observe_read(tid, steps, first, count, observer),
         Access::Write { first, count } => observe_write(tid, steps, first, count, observer),
         Access::Both { word } => observe_both(tid, steps, word, observer),
@@ -303,7 +303,7 @@ fn tell_access<W: Observer>(
 
 // Hands out `steps` steps of a thread, and the calls and the returns of the last, each kind by its own function.
 #[inline(always)]
-fn tell_jump<W: Observer>(
+fn observe_jump<W: Observer>(
     tid: Tid,
     steps: u64,
     jump: JumpKind,
@@ -319,10 +319,10 @@ fn tell_jump<W: Observer>(
     ensures same { W.fits observer.new ≡ W.fits observer.old }
 {
     match jump {
-        JumpKind::Nothing => observe_access(tid, steps, Access::Nothing, observer),
+        JumpKind::Nothing => inline_access(tid, steps, Access::Nothing, observer),
         JumpKind::Push => observe_call(tid, steps, target, back, observer),
         JumpKind::Pop => observe_return(tid, steps, target, observer),
-        JumpKind::PopPush => observe_swap(tid, steps, target, back, observer),
+        JumpKind::PopPush => observe_return_and_call(tid, steps, target, back, observer),
     }
 }
 
@@ -343,10 +343,10 @@ pub fn observe_told<W: Observer>(
     ensures same { W.fits observer.new ≡ W.fits observer.old }
 {
     match advanced {
-        Advanced::Ran => observe_access(tid, steps, Access::Nothing, observer),
-        Advanced::Accessed { access } => tell_access(tid, steps, access, observer),
+        Advanced::Ran => inline_access(tid, steps, Access::Nothing, observer),
+        Advanced::Accessed { access } => observe_access(tid, steps, access, observer),
         Advanced::Jumped { jump, target, back } => {
-            tell_jump(tid, steps, jump, target, back, observer)
+            observe_jump(tid, steps, jump, target, back, observer)
         }
         Advanced::Other { .. } => unreachable!(),
     }

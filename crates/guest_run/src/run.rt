@@ -67,8 +67,8 @@ impl Runner {
         })
     }
 
-    // Makes one move, or says how the run ends, by this move or before one. It stands apart from the loop over moves whose
-    // instruction is known.
+    // Makes one move, or says how the run ends, by this move or before one. It stands apart from the moves that the machine's
+    // loop makes.
     #[inline(never)]
     fn advance<W: Observer, O: Sink, E: Sink>(
         &mut self,

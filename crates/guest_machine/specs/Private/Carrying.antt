@@ -38,7 +38,7 @@ pub record StepsTo (m : MachineState) (tid : ℕ) (c : ExecState) (events : List
 abbrev pub IsStepOf : ExecState → ExecState → ℕ → Advanced → Type 0
 IsStepOf old new tid advanced = (m : MachineState) → IsStateOf old tid m → StepsTo m tid new (Step tid ∷ done_by tid advanced)
 
--- What it means that an instruction that can't write went; where it may write or can't go on, nothing changed.
+-- What a `Reading` says: the instruction went; otherwise nothing changed.
 abbrev pub IsReadingOf : ExecState → ExecState → ℕ → Reading → Type 0
 IsReadingOf old new tid (reading.Went advanced) = IsStepOf old new tid advanced × IsInstruction advanced
 IsReadingOf old new tid other = new ≡ old

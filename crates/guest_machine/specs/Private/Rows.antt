@@ -58,12 +58,13 @@ pub record MayRun {O : Type 0} (Stands : O → List Event → Type 0) (fits : Li
   pub most : ℕ
   pub run : HasRun Stands fits tid first old most row here now
 
--- Whatever row of steps led here went on, and led there.
+-- Any row that led to the first state leads on to the second.
 abbrev pub RunsOn : {O : Type 0} → (O → List Event → Type 0) → (List Event → Bool) → ℕ → StepRow → ExecState → O → StepRow → ExecState → O → Result Observed AllocError → Type 0
 RunsOn {O} Stands fits tid row here now row' there later answer =
     (first : ExecState) (old : O) (most : ℕ) → HasRun Stands fits tid first old most row here now → Runs Stands fits tid first old most row' there later answer
 
 -- ---- why a part of the row ends
+-- the observer's answer at the end of the steps within a page, and of the next steps
 abbrev pub answer_of : Result Paused AllocError → Result Observed AllocError
 answer_of (Ok paused.Refused) = Ok observed.Refused
 answer_of (Ok other) = Ok observed.Taken
@@ -73,8 +74,9 @@ answer_of (Err e) = Err e
 abbrev pub IsPaused : Memory → ℕ → StepRow → Paused → Type 0
 IsPaused m pc row paused.Done = row.left ≤ row.plain
 IsPaused m pc row paused.Refused = Unit {0}
-IsPaused m pc row (paused.Before instruction) = (row.plain < row.left) × IsInstructionAt m pc instruction
+IsPaused m pc row (paused.MayWrite instruction) = (row.plain < row.left) × IsInstructionAt m pc instruction
 IsPaused m pc row paused.Elsewhere = row.plain < row.left
+IsPaused m pc row paused.Stops = Unit {0}
 
 abbrev pub further_of : Result Further AllocError → Result Observed AllocError
 further_of (Ok further.Refused) = Ok observed.Refused
@@ -94,7 +96,7 @@ pub record MayCount {O : Type 0} (Stands : O → List Event → Type 0) (fits : 
   pub run : MayRun Stands fits tid row here now
   pub step : IsNext here there tid next
 
--- Whatever row of steps led to a state where this is the next, it went on with it.
+-- Any row that led to a state where this is the next step leads on with it.
 abbrev pub Counts : {O : Type 0} → (O → List Event → Type 0) → (List Event → Bool) → ℕ → StepRow → Option Advanced → O → StepRow → O → Result Observed AllocError → Type 0
 Counts {O} Stands fits tid row next now row' later answer =
     (here there : ExecState) → IsNext here there tid next → RunsOn Stands fits tid row here now row' there later answer

@@ -17,7 +17,7 @@ hand_step-requires g c =
     record {
       instruction = went.1;
       within = c.requires.within;
-      fits = c.requires.fits;
+      range = c.requires.range;
       next = may_hand g.W.Observer.stands (g.W.Observer.fits old) (g.W.Observer.steps_fit old) tid r.first r.old r.most c.args.row.now s.here old r.run c.requires.within s.there c.in-Some.acted went.0;
     }
 

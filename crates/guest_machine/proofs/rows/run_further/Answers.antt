@@ -12,7 +12,7 @@ carry_out-next-requires-clause-state g c =
     let tid = c.args.tid in
     let begun = exec_state_of c.args.cpu.now c.args.memory.now c.args.held.now in
     let here = exec_state_of c.run_page_at.new.cpu c.args.memory.now c.args.held.now in
-    let page = c.in-Ok-Before.is ∙ ap (λ (p : Paused). Ok p) c.in-Ok-Before.field-0-is in
+    let page = c.in-Ok-MayWrite.is ∙ ap (λ (p : Paused). Ok p) c.in-Ok-MayWrite.field-0-is in
     let goes = subst (λ r. RunsOn g.W.Observer.stands (g.W.Observer.fits old) tid c.args.row.now begun old c.run_page_at.new.row here c.run_page_at.new.observer (answer_of r)) page c.run_page_at.ensures.runs in
     let r = c.requires.run in
     let run = goes r.first r.old r.most r.run in
@@ -24,7 +24,7 @@ count_next-requires-clause-step g c =
     let tid = c.args.tid in
     let begun = exec_state_of c.args.cpu.now c.args.memory.now c.args.held.now in
     let here = exec_state_of c.run_page_at.new.cpu c.args.memory.now c.args.held.now in
-    let page = c.in-Ok-Before.is ∙ ap (λ (p : Paused). Ok p) c.in-Ok-Before.field-0-is in
+    let page = c.in-Ok-MayWrite.is ∙ ap (λ (p : Paused). Ok p) c.in-Ok-MayWrite.field-0-is in
     let goes = subst (λ r. RunsOn g.W.Observer.stands (g.W.Observer.fits old) tid c.args.row.now begun old c.run_page_at.new.row here c.run_page_at.new.observer (answer_of r)) page c.run_page_at.ensures.runs in
     let r = c.requires.run in
     let there = exec_state_of c.carry_out-next.new.cpu c.carry_out-next.new.memory c.carry_out-next.new.held in
@@ -36,17 +36,17 @@ count_next-requires-clause-step g c =
       step = is_next here there tid c.carry_out-next.result c.carry_out-next.ensures.step c.carry_out-next.ensures.kept c.carry_out-next.ensures.instruction;
     })
 
-pub count_next-requires-clause-fits : goal.count_next-requires-clause-fits
-count_next-requires-clause-fits g c =
+pub count_next-requires-clause-range : goal.count_next-requires-clause-range
+count_next-requires-clause-range g c =
     let old = c.args.observer.now in
     let tid = c.args.tid in
     let begun = exec_state_of c.args.cpu.now c.args.memory.now c.args.held.now in
     let here = exec_state_of c.run_page_at.new.cpu c.args.memory.now c.args.held.now in
-    let page = c.in-Ok-Before.is ∙ ap (λ (p : Paused). Ok p) c.in-Ok-Before.field-0-is in
+    let page = c.in-Ok-MayWrite.is ∙ ap (λ (p : Paused). Ok p) c.in-Ok-MayWrite.field-0-is in
     let goes = subst (λ r. RunsOn g.W.Observer.stands (g.W.Observer.fits old) tid c.args.row.now begun old c.run_page_at.new.row here c.run_page_at.new.observer (answer_of r)) page c.run_page_at.ensures.runs in
     let r = c.requires.run in
     let run = goes r.first r.old r.most r.run in
-    omega (arith, run.room, r.run.room, c.requires.fits)
+    omega (arith, run.room, r.run.room, c.requires.range)
 
 pub carry_out_next-requires : goal.carry_out_next-requires
 carry_out_next-requires g c =
@@ -78,8 +78,8 @@ count_next-requires-in-Ok-clause-step g c =
       step = is_next here there tid c.in-Ok.next c.in-Ok.ensures.step c.in-Ok.ensures.kept c.in-Ok.ensures.instruction;
     })
 
-pub count_next-requires-in-Ok-clause-fits : goal.count_next-requires-in-Ok-clause-fits
-count_next-requires-in-Ok-clause-fits g c =
+pub count_next-requires-in-Ok-clause-range : goal.count_next-requires-in-Ok-clause-range
+count_next-requires-in-Ok-clause-range g c =
     let old = c.args.observer.now in
     let tid = c.args.tid in
     let begun = exec_state_of c.args.cpu.now c.args.memory.now c.args.held.now in
@@ -88,7 +88,7 @@ count_next-requires-in-Ok-clause-fits g c =
     let goes = subst (λ r. RunsOn g.W.Observer.stands (g.W.Observer.fits old) tid c.args.row.now begun old c.run_page_at.new.row here c.run_page_at.new.observer (answer_of r)) page c.run_page_at.ensures.runs in
     let r = c.requires.run in
     let run = goes r.first r.old r.most r.run in
-    omega (arith, run.room, r.run.room, c.requires.fits)
+    omega (arith, run.room, r.run.room, c.requires.range)
 
 pub returns-in-Ok-Done-clause-runs : goal.returns-in-Ok-Done-clause-runs
 returns-in-Ok-Done-clause-runs g c =
@@ -126,13 +126,24 @@ returns-in-Ok-Refused-clause-runs g c =
     let r = c.requires.run in
     goes
 
-pub returns-in-Ok-Before-clause-runs : goal.returns-in-Ok-Before-clause-runs
-returns-in-Ok-Before-clause-runs g c = λ first began most run.
+pub returns-in-Ok-Stops-clause-runs : goal.returns-in-Ok-Stops-clause-runs
+returns-in-Ok-Stops-clause-runs g c =
     let old = c.args.observer.now in
     let tid = c.args.tid in
     let begun = exec_state_of c.args.cpu.now c.args.memory.now c.args.held.now in
     let here = exec_state_of c.run_page_at.new.cpu c.args.memory.now c.args.held.now in
-    let page = c.in-Ok-Before.is ∙ ap (λ (p : Paused). Ok p) c.in-Ok-Before.field-0-is in
+    let page = c.in-Ok-Stops.is ∙ ap (λ (p : Paused). Ok p) c.in-Ok-Stops.field-0-is in
+    let goes = subst (λ r. RunsOn g.W.Observer.stands (g.W.Observer.fits old) tid c.args.row.now begun old c.run_page_at.new.row here c.run_page_at.new.observer (answer_of r)) page c.run_page_at.ensures.runs in
+    let r = c.requires.run in
+    goes
+
+pub returns-in-Ok-MayWrite-clause-runs : goal.returns-in-Ok-MayWrite-clause-runs
+returns-in-Ok-MayWrite-clause-runs g c = λ first began most run.
+    let old = c.args.observer.now in
+    let tid = c.args.tid in
+    let begun = exec_state_of c.args.cpu.now c.args.memory.now c.args.held.now in
+    let here = exec_state_of c.run_page_at.new.cpu c.args.memory.now c.args.held.now in
+    let page = c.in-Ok-MayWrite.is ∙ ap (λ (p : Paused). Ok p) c.in-Ok-MayWrite.field-0-is in
     let goes = subst (λ r. RunsOn g.W.Observer.stands (g.W.Observer.fits old) tid c.args.row.now begun old c.run_page_at.new.row here c.run_page_at.new.observer (answer_of r)) page c.run_page_at.ensures.runs in
     let r = c.requires.run in
     let there = exec_state_of c.carry_out-next.new.cpu c.carry_out-next.new.memory c.carry_out-next.new.held in

@@ -1,4 +1,7 @@
-use Rattle.std.proofs.Common.{◌≡◌, ◌+◌, ◌%◌, ◌++◌, Ok, Err, IfOk, sym, ap, subst, ◌∙◌, arith}
+use Rattle.std.proofs.Common.{◌≡◌, Option, IfSome, ◌+◌, ◌%◌, ◌++◌, Ok, Err, IfOk, sym, ap, subst, ◌∙◌, arith}
+use Rattle.rv_isa.specs.declared.instruction.Instr.{Instr}
+use Rattle.guest_memory.specs.Code.{IsInstructionAt}
+use Rattle.guest_memory.specs.Guest.{memory_of}
 use Rattle.rv_exec.specs.Effects.{ExecState, exec_state_of}
 use Rattle.rv_exec.specs.Registers.{Registers}
 use Rattle.trace_model.specs.declared.observer.Observed.{Observed}
@@ -20,22 +23,32 @@ find-requires g c =
     ∙ state_aligned here c.args.tid _ (state_here g.W.Observer.stands (g.W.Observer.fits old) (g.W.Observer.steps_fit old) c.args.tid r.first r.old r.most c.steps.row here c.steps.observer
     (c.steps.invariant.runs r.first r.old r.most r.run))
 
-pub returns-in-Writes-clause-runs : goal.returns-in-Writes-clause-runs
-returns-in-Writes-clause-runs g c =
+pub returns-in-MayWrite-clause-runs : goal.returns-in-MayWrite-clause-runs
+returns-in-MayWrite-clause-runs g c =
     let old = c.args.observer.now in
     let here = exec_state_of c.steps.cpu c.args.memory.now c.args.held.now in
     let new = exec_state_of c.carry_out_reading.new.cpu c.args.memory.now c.args.held.now in
-    let kept : new ≡ here = subst (IsReadingOf here new c.args.tid) c.in-Writes.is c.carry_out_reading.ensures in
+    let kept : new ≡ here = subst (IsReadingOf here new c.args.tid) c.in-MayWrite.is (c.carry_out_reading.ensures c.args.tid c.args.held.now) in
     λ first began most run.
     subst (λ (s : ExecState). HasRun g.W.Observer.stands (g.W.Observer.fits old) c.args.tid first began most c.steps.row s c.steps.observer) (sym kept)
     (c.steps.invariant.runs first began most run)
+
+pub returns-in-MayWrite-clause-next : goal.returns-in-MayWrite-clause-next
+returns-in-MayWrite-clause-next g c =
+    let m = memory_of c.args.memory.now in
+    let here = exec_state_of c.steps.cpu c.args.memory.now c.args.held.now in
+    let new = exec_state_of c.carry_out_reading.new.cpu c.args.memory.now c.args.held.now in
+    let kept : new ≡ here = subst (IsReadingOf here new c.args.tid) c.in-MayWrite.is (c.carry_out_reading.ensures c.args.tid c.args.held.now) in
+    let found = subst (λ (o : Option Instr). IfSome o (IsInstructionAt m c.cpu.inside.pc)) c.in-Some.is (c.find.ensures m c.requires.page) in
+    let same = ap (λ (s : Registers). s.pc) c.cpu.view_is ∙ sym (ap (λ (s : ExecState). s.registers.pc) kept) in
+    (c.steps-test.true, subst (λ pc. IsInstructionAt m pc c.in-Some.instruction) same found)
 
 pub returns-in-Stops-clause-runs : goal.returns-in-Stops-clause-runs
 returns-in-Stops-clause-runs g c =
     let old = c.args.observer.now in
     let here = exec_state_of c.steps.cpu c.args.memory.now c.args.held.now in
     let new = exec_state_of c.carry_out_reading.new.cpu c.args.memory.now c.args.held.now in
-    let kept : new ≡ here = subst (IsReadingOf here new c.args.tid) c.in-Stops.is c.carry_out_reading.ensures in
+    let kept : new ≡ here = subst (IsReadingOf here new c.args.tid) c.in-Stops.is (c.carry_out_reading.ensures c.args.tid c.args.held.now) in
     λ first began most run.
     subst (λ (s : ExecState). HasRun g.W.Observer.stands (g.W.Observer.fits old) c.args.tid first began most c.steps.row s c.steps.observer) (sym kept)
     (c.steps.invariant.runs first began most run)
@@ -46,7 +59,7 @@ steps-preserved-in-Ran g c =
     let tid = c.args.tid in
     let here = exec_state_of c.steps.cpu c.args.memory.now c.args.held.now in
     let new = exec_state_of c.carry_out_reading.new.cpu c.args.memory.now c.args.held.now in
-    let went : IsStepOf here new tid c.in-Went.advanced × IsInstruction c.in-Went.advanced = subst (IsReadingOf here new tid) c.in-Went.is c.carry_out_reading.ensures in
+    let went : IsStepOf here new tid c.in-Went.advanced × IsInstruction c.in-Went.advanced = subst (IsReadingOf here new tid) c.in-Went.is (c.carry_out_reading.ensures c.args.tid c.args.held.now) in
     let step = subst (IsStepOf here new tid) c.in-Ran.is went.0 in
     record {
       runs = λ first began most run.
@@ -64,11 +77,11 @@ hand_step-requires g c =
     let r = c.requires.run in
     let here = exec_state_of c.steps.cpu c.args.memory.now c.args.held.now in
     let new = exec_state_of c.carry_out_reading.new.cpu c.args.memory.now c.args.held.now in
-    let went : IsStepOf here new tid c.in-Went.advanced × IsInstruction c.in-Went.advanced = subst (IsReadingOf here new tid) c.in-Went.is c.carry_out_reading.ensures in
+    let went : IsStepOf here new tid c.in-Went.advanced × IsInstruction c.in-Went.advanced = subst (IsReadingOf here new tid) c.in-Went.is (c.carry_out_reading.ensures c.args.tid c.args.held.now) in
     record {
       instruction = went.1;
       within = c.steps-test.true;
-      fits = omega (arith, c.steps.invariant.whole, c.requires.fits);
+      range = omega (arith, c.steps.invariant.whole, c.requires.range);
       next = subst (λ fits. MayTakeAll g.W.Observer.stands fits c.steps.observer (steps_of tid (c.steps.row.plain + 1) ++ done_by tid c.in-Went.advanced)) (sym c.steps.invariant.same)
           (may_hand g.W.Observer.stands (g.W.Observer.fits old) (g.W.Observer.steps_fit old) tid r.first r.old r.most c.steps.row here c.steps.observer
           (c.steps.invariant.runs r.first r.old r.most r.run) c.steps-test.true new c.in-Went.advanced went.0);
@@ -80,7 +93,7 @@ steps-preserved g c =
     let tid = c.args.tid in
     let here = exec_state_of c.steps.cpu c.args.memory.now c.args.held.now in
     let new = exec_state_of c.carry_out_reading.new.cpu c.args.memory.now c.args.held.now in
-    let went : IsStepOf here new tid c.in-Went.advanced × IsInstruction c.in-Went.advanced = subst (IsReadingOf here new tid) c.in-Went.is c.carry_out_reading.ensures in
+    let went : IsStepOf here new tid c.in-Went.advanced × IsInstruction c.in-Went.advanced = subst (IsReadingOf here new tid) c.in-Went.is (c.carry_out_reading.ensures c.args.tid c.args.held.now) in
     let events = steps_of tid (c.steps.row.plain + 1) ++ done_by tid c.in-Went.advanced in
     let observes = subst (λ fits. IfOk c.hand_step.result (ObservesAll g.W.Observer.stands fits events c.steps.observer c.hand_step.new.observer)) c.steps.invariant.same c.hand_step.ensures.observed in
     let grown = handed_grows c.steps.row c.hand_step.new.row c.hand_step.ensures.row in
@@ -100,7 +113,7 @@ returns-in-Ok-Refused g c =
     let tid = c.args.tid in
     let here = exec_state_of c.steps.cpu c.args.memory.now c.args.held.now in
     let new = exec_state_of c.carry_out_reading.new.cpu c.args.memory.now c.args.held.now in
-    let went : IsStepOf here new tid c.in-Went.advanced × IsInstruction c.in-Went.advanced = subst (IsReadingOf here new tid) c.in-Went.is c.carry_out_reading.ensures in
+    let went : IsStepOf here new tid c.in-Went.advanced × IsInstruction c.in-Went.advanced = subst (IsReadingOf here new tid) c.in-Went.is (c.carry_out_reading.ensures c.args.tid c.args.held.now) in
     let events = steps_of tid (c.steps.row.plain + 1) ++ done_by tid c.in-Went.advanced in
     let observes = subst (λ fits. IfOk c.hand_step.result (ObservesAll g.W.Observer.stands fits events c.steps.observer c.hand_step.new.observer)) c.steps.invariant.same c.hand_step.ensures.observed in
     let grown = handed_grows c.steps.row c.hand_step.new.row c.hand_step.ensures.row in
@@ -120,7 +133,7 @@ returns-in-Err g c =
     let tid = c.args.tid in
     let here = exec_state_of c.steps.cpu c.args.memory.now c.args.held.now in
     let new = exec_state_of c.carry_out_reading.new.cpu c.args.memory.now c.args.held.now in
-    let went : IsStepOf here new tid c.in-Went.advanced × IsInstruction c.in-Went.advanced = subst (IsReadingOf here new tid) c.in-Went.is c.carry_out_reading.ensures in
+    let went : IsStepOf here new tid c.in-Went.advanced × IsInstruction c.in-Went.advanced = subst (IsReadingOf here new tid) c.in-Went.is (c.carry_out_reading.ensures c.args.tid c.args.held.now) in
     let events = steps_of tid (c.steps.row.plain + 1) ++ done_by tid c.in-Went.advanced in
     let observes = subst (λ fits. IfOk c.hand_step.result (ObservesAll g.W.Observer.stands fits events c.steps.observer c.hand_step.new.observer)) c.steps.invariant.same c.hand_step.ensures.observed in
     let grown = handed_grows c.steps.row c.hand_step.new.row c.hand_step.ensures.row in

@@ -1,20 +1,20 @@
 use Rattle.std.proofs.Common.{subst, sym}
 use Rattle.std.proofs.lemmas.Result.{IfOk-weaker}
 use Rattle.trace_model.specs.Observing.{MayTakeAll, ObservesAll}
-use Rattle.guest_machine.specs.Step.{access_events}
+use Rattle.guest_machine.specs.Step.{jump_events}
 use Rattle.guest_machine.proofs.Handed.{may_go_on, may_step, observes_on}
-use Rattle.guest_machine.proofs.telling.observe_access.Goals as goal
+use Rattle.guest_machine.proofs.telling.inline_jump.Goals as goal
 
 pub observe_steps-requires-clause-may : goal.observe_steps-requires-clause-may
 observe_steps-requires-clause-may g c =
     let old = c.args.observer.now in
-    may_step g.W.Observer.stands (g.W.Observer.fits old) (g.W.Observer.steps_fit old) c.args.tid c.args.steps (access_events c.args.tid c.args.access) old c.requires.next
+    may_step g.W.Observer.stands (g.W.Observer.fits old) (g.W.Observer.steps_fit old) c.args.tid c.args.steps (jump_events c.args.jump c.args.tid c.args.target c.args.back) old c.requires.next
 
-pub hand_access-requires : goal.hand_access-requires
-hand_access-requires g c =
+pub hand_jump-requires : goal.hand_jump-requires
+hand_jump-requires g c =
     let old = c.args.observer.now in
     let mid = c.observe_steps.new.self in
-    let events = access_events c.args.tid c.args.access in
+    let events = jump_events c.args.jump c.args.tid c.args.target c.args.back in
     subst (λ fits. MayTakeAll g.W.Observer.stands fits mid events) (sym c.observe_steps.ensures.same)
     (may_go_on g.W.Observer.stands (g.W.Observer.fits old) (g.W.Observer.steps_fit old) c.args.tid c.args.steps events old mid c.in_ok-observe_steps.ensures.stepped c.requires.next)
 
@@ -22,10 +22,10 @@ pub returns-clause-observed : goal.returns-clause-observed
 returns-clause-observed g c =
     let old = c.args.observer.now in
     let mid = c.observe_steps.new.self in
-    let new = c.hand_access.new.observer in
-    let events = access_events c.args.tid c.args.access in
-    IfOk-weaker c.hand_access.result _ _
+    let new = c.hand_jump.new.observer in
+    let events = jump_events c.args.jump c.args.tid c.args.target c.args.back in
+    IfOk-weaker c.hand_jump.result _ _
     (λ observed h.
     observes_on g.W.Observer.stands (g.W.Observer.fits old) (g.W.Observer.steps_fit old) c.args.tid c.args.steps events old mid c.in_ok-observe_steps.ensures.stepped new observed
     (subst (λ fits. ObservesAll g.W.Observer.stands fits events mid new observed) c.observe_steps.ensures.same h))
-    c.hand_access.ensures.observed
+    c.hand_jump.ensures.observed
