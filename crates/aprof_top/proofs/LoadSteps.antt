@@ -180,7 +180,7 @@ none_loaded [] = refl
 none_loaded (l ∷ loads) = refl
 
 -- ---- the steps of the loads
--- So many files were loaded, and they pass no limit; those that share one have this many bytes.
+-- This many files were loaded, within their limits; those that share a limit have this many bytes.
 pub record IsLoading (loads : List Load) (count sum : ℕ) (loaded : Loaded) (old now : FilesState) : Type 0 where
   pub files : List (List ℕ)
   pub count_is : length files ≡ count
