@@ -182,7 +182,7 @@ class Hints:
         arguments = sum(len(os.fsencode(word.removeprefix("="))) + 1 for word in self.read.positionals)
         if not long and self.name != "replay" and arguments > ARGUMENT_LIMIT:
             long = [f"the arguments have {arguments} bytes: at most 64 KiB"]
-        return long or [LIMITS]
+        return long or [MADE.get(self.name, LIMITS)]
 
     def bad_trace(self) -> list[str]:
         number = self.asked_again("replay", "-o", "/dev/null", "--", self.image())
@@ -195,4 +195,9 @@ class Hints:
 
 OTHER_RUNS = "of other words or input, of another build, or of the image by another path"
 CONTEXT_OPTIONS = ("--stdin", "--quantum", "--schedule", "--budget", "--stamps")
+# what a command makes that may be too large, if no file that it read is
+MADE = {
+    "trace": "the trace has more than 64 MiB: a smaller input, or --budget N for the first N instructions",
+    "contexts": "the run has more than 4294967294 calling contexts: a smaller input, or --budget N for the first N instructions",
+}
 LIMITS = "limits: 16 MiB a file, 64 MiB of inputs, 56 MiB of image, 64 MiB of trace, 64 KiB of arguments, 4294967294 contexts"

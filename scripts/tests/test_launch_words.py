@@ -67,6 +67,8 @@ HINTS: Sequence[tuple[str | Sequence[str], int, Sequence[str]]] = (
     ("run --stamps 8 -o r bubble", 8, ["--stamps 8 tells at most 84 open calls apart: leave it out\n"]),
     ("run -o r bubble", 10, ["too little memory free"]),
     ("run -o r bubble", 11, ["limits: 16 MiB a file"]),
+    ("trace -o t bubble", 11, ["the trace has more than 64 MiB"]),
+    ("contexts -o c bubble", 11, ["more than 4294967294 calling contexts"]),
     ("run -o r bubble large", 11, ["aprof: large has 16777217 bytes: a file has at most 16 MiB\n"]),
     ("run -o r bubble", 137, ["aprof: signal 9 ended the run; where memory is short"]),
     ("run -o r bubble", 12, []),
