@@ -42,7 +42,7 @@ pub(crate) fn told(instruction: &Instr, access: Access, target: Addr, back: Addr
 
 // Hands out an event.
 #[inline(always)]
-fn observe_one<W: Observer>(e: Event, observer: &mut W) -> Result<Observed, AllocError>
+fn hand_one<W: Observer>(e: Event, observer: &mut W) -> Result<Observed, AllocError>
     requires { MayTakeAll W.stands (W.fits observer.old) observer.old (e ∷ []) }
     ensures observed { IfOk result (ObservesAll W.stands (W.fits observer.old)
         (e ∷ []) observer.old observer.new) }
@@ -53,7 +53,7 @@ fn observe_one<W: Observer>(e: Event, observer: &mut W) -> Result<Observed, Allo
 
 // Hands out two events.
 #[inline(always)]
-fn observe_two<W: Observer>(
+fn hand_two<W: Observer>(
     first: Event,
     second: Event,
     observer: &mut W,
@@ -69,104 +69,65 @@ fn observe_two<W: Observer>(
     }
 }
 
-// Hands out the accesses of an instruction.
+// Hands out `steps` steps of a thread, the last of which did nothing beside.
 #[inline(always)]
-fn hand_access<W: Observer>(
-    tid: Tid,
-    access: Access,
-    observer: &mut W,
-) -> Result<Observed, AllocError>
-    requires { MayTakeAll W.stands (W.fits observer.old) observer.old (access_events tid access) }
-    ensures observed { IfOk result (ObservesAll W.stands (W.fits observer.old)
-        (access_events tid access) observer.old observer.new) }
-    ensures same { W.fits observer.new ≡ W.fits observer.old }
-{
-    match access {
-        Access::Nothing => Ok(Observed::Taken),
-        Access::Read { first, count } => {
-            observe_one(Event::Read { tid, first, count }, observer)
-        }
-        Access::Write { first, count } => {
-            observe_one(Event::Write { tid, first, count }, observer)
-        }
-        Access::Both { word } => {
-            let first = word;
-            let count = 1;
-            let read = Event::Read { tid, first, count };
-            observe_two(read, Event::Write { tid, first, count }, observer)
-        }
-    }
-}
-
-// Hands out the calls and the returns of a jump.
-#[inline(always)]
-fn hand_jump<W: Observer>(
-    tid: Tid,
-    jump: JumpKind,
-    target: Addr,
-    back: Addr,
-    observer: &mut W,
-) -> Result<Observed, AllocError>
-    requires { MayTakeAll W.stands (W.fits observer.old) observer.old
-        (jump_events jump tid target back) }
-    ensures observed { IfOk result (ObservesAll W.stands (W.fits observer.old)
-        (jump_events jump tid target back) observer.old observer.new) }
-    ensures same { W.fits observer.new ≡ W.fits observer.old }
-{
-    let entry = target;
-    match jump {
-        JumpKind::Nothing => Ok(Observed::Taken),
-        JumpKind::Push => observe_one(Event::Call { tid, entry, back }, observer),
-        JumpKind::Pop => observe_one(Event::Ret { tid, target }, observer),
-        JumpKind::PopPush => {
-            let call = Event::Call { tid, entry, back };
-            observe_two(Event::Ret { tid, target }, call, observer)
-        }
-    }
-}
-
-// Hands out `steps` steps of a thread, and the accesses of the last.
-#[inline(always)]
-fn inline_access<W: Observer>(
+fn observe_nothing<W: Observer>(
     tid: Tid,
     steps: u64,
-    access: Access,
     observer: &mut W,
 ) -> Result<Observed, AllocError>
     requires some { 1 ≤ steps }
     requires next { MayTakeAll W.stands (W.fits observer.old) observer.old
-        (steps_of tid steps ++ access_events tid access) }
+        (steps_of tid steps ++ []) }
     ensures observed { IfOk result (ObservesAll W.stands (W.fits observer.old)
-        (steps_of tid steps ++ access_events tid access) observer.old observer.new) }
+        (steps_of tid steps ++ []) observer.old observer.new) }
     ensures same { W.fits observer.new ≡ W.fits observer.old }
 {
     observer.observe_steps(tid, steps)?;
-    hand_access(tid, access, observer)
+    Ok(Observed::Taken)
 }
 
-// Hands out `steps` steps of a thread, and the calls and the returns of the last.
+// Hands out `steps` steps of a thread, and an event of the last.
 #[inline(always)]
-fn inline_jump<W: Observer>(
+fn observe_one<W: Observer>(
     tid: Tid,
     steps: u64,
-    jump: JumpKind,
-    target: Addr,
-    back: Addr,
+    e: Event,
     observer: &mut W,
 ) -> Result<Observed, AllocError>
     requires some { 1 ≤ steps }
     requires next { MayTakeAll W.stands (W.fits observer.old) observer.old
-        (steps_of tid steps ++ jump_events jump tid target back) }
+        (steps_of tid steps ++ e ∷ []) }
     ensures observed { IfOk result (ObservesAll W.stands (W.fits observer.old)
-        (steps_of tid steps ++ jump_events jump tid target back) observer.old observer.new) }
+        (steps_of tid steps ++ e ∷ []) observer.old observer.new) }
     ensures same { W.fits observer.new ≡ W.fits observer.old }
 {
     observer.observe_steps(tid, steps)?;
-    hand_jump(tid, jump, target, back, observer)
+    hand_one(e, observer)
+}
+
+// Hands out `steps` steps of a thread, and two events of the last.
+#[inline(always)]
+fn observe_two<W: Observer>(
+    tid: Tid,
+    steps: u64,
+    first: Event,
+    second: Event,
+    observer: &mut W,
+) -> Result<Observed, AllocError>
+    requires some { 1 ≤ steps }
+    requires next { MayTakeAll W.stands (W.fits observer.old) observer.old
+        (steps_of tid steps ++ first ∷ second ∷ []) }
+    ensures observed { IfOk result (ObservesAll W.stands (W.fits observer.old)
+        (steps_of tid steps ++ first ∷ second ∷ []) observer.old observer.new) }
+    ensures same { W.fits observer.new ≡ W.fits observer.old }
+{
+    observer.observe_steps(tid, steps)?;
+    hand_two(first, second, observer)
 }
 
 // Hands out `steps` steps of a thread, the last of which read these words. Each kind of event has a function of its own, which
-// stands apart: the code of the loop over known instructions is then short enough to be inlined.
+// stands apart: the code of the loop over known instructions is then short enough to be inlined, and so is the observer's here.
 #[inline(never)]
 fn observe_read<W: Observer>(
     tid: Tid,
@@ -182,7 +143,7 @@ fn observe_read<W: Observer>(
         (steps_of tid steps ++ Read tid first count ∷ []) observer.old observer.new) }
     ensures same { W.fits observer.new ≡ W.fits observer.old }
 {
-    inline_access(tid, steps, Access::Read { first, count }, observer)
+    observe_one(tid, steps, Event::Read { tid, first, count }, observer)
 }
 
 // Hands out `steps` steps of a thread, the last of which wrote these words.
@@ -201,7 +162,7 @@ fn observe_write<W: Observer>(
         (steps_of tid steps ++ Write tid first count ∷ []) observer.old observer.new) }
     ensures same { W.fits observer.new ≡ W.fits observer.old }
 {
-    inline_access(tid, steps, Access::Write { first, count }, observer)
+    observe_one(tid, steps, Event::Write { tid, first, count }, observer)
 }
 
 // Hands out `steps` steps of a thread, the last of which read this word and then wrote it.
@@ -219,7 +180,16 @@ fn observe_both<W: Observer>(
         (steps_of tid steps ++ Read tid word 1 ∷ Write tid word 1 ∷ []) observer.old observer.new) }
     ensures same { W.fits observer.new ≡ W.fits observer.old }
 {
-    inline_access(tid, steps, Access::Both { word }, observer)
+    let first = word;
+    let count = 1;
+    let read = Event::Read { tid, first, count };
+    observe_two(
+        tid,
+        steps,
+        read,
+        Event::Write { tid, first, count },
+        observer,
+    )
 }
 
 // Hands out `steps` steps of a thread, the last of which is a call.
@@ -238,7 +208,7 @@ fn observe_call<W: Observer>(
         (steps_of tid steps ++ Call tid entry back ∷ []) observer.old observer.new) }
     ensures same { W.fits observer.new ≡ W.fits observer.old }
 {
-    inline_jump(tid, steps, JumpKind::Push, entry, back, observer)
+    observe_one(tid, steps, Event::Call { tid, entry, back }, observer)
 }
 
 // Hands out `steps` steps of a thread, the last of which is a return.
@@ -256,7 +226,7 @@ fn observe_return<W: Observer>(
         (steps_of tid steps ++ Ret tid target ∷ []) observer.old observer.new) }
     ensures same { W.fits observer.new ≡ W.fits observer.old }
 {
-    inline_jump(tid, steps, JumpKind::Pop, target, 0, observer)
+    observe_one(tid, steps, Event::Ret { tid, target }, observer)
 }
 
 // Hands out `steps` steps of a thread, the last of which returns and then calls.
@@ -275,10 +245,12 @@ fn observe_return_and_call<W: Observer>(
         (steps_of tid steps ++ Ret tid target ∷ Call tid target back ∷ []) observer.old observer.new) }
     ensures same { W.fits observer.new ≡ W.fits observer.old }
 {
-    inline_jump(tid, steps, JumpKind::PopPush, target, back, observer)
+    let entry = target;
+    let call = Event::Call { tid, entry, back };
+    observe_two(tid, steps, Event::Ret { tid, target }, call, observer)
 }
 
-// Hands out `steps` steps of a thread, and the accesses of the last, each kind by its own function.
+// Hands out `steps` steps of a thread, and the accesses of the last.
 #[inline(always)]
 fn observe_access<W: Observer>(
     tid: Tid,
@@ -294,14 +266,14 @@ fn observe_access<W: Observer>(
     ensures same { W.fits observer.new ≡ W.fits observer.old }
 {
     match access {
-        Access::Nothing => inline_access(tid, steps, Access::Nothing, observer),
+        Access::Nothing => observe_nothing(tid, steps, observer),
         Access::Read { first, count } => observe_read(tid, steps, first, count, observer),
         Access::Write { first, count } => observe_write(tid, steps, first, count, observer),
         Access::Both { word } => observe_both(tid, steps, word, observer),
     }
 }
 
-// Hands out `steps` steps of a thread, and the calls and the returns of the last, each kind by its own function.
+// Hands out `steps` steps of a thread, and the calls and the returns of the last.
 #[inline(always)]
 fn observe_jump<W: Observer>(
     tid: Tid,
@@ -319,7 +291,7 @@ fn observe_jump<W: Observer>(
     ensures same { W.fits observer.new ≡ W.fits observer.old }
 {
     match jump {
-        JumpKind::Nothing => inline_access(tid, steps, Access::Nothing, observer),
+        JumpKind::Nothing => observe_nothing(tid, steps, observer),
         JumpKind::Push => observe_call(tid, steps, target, back, observer),
         JumpKind::Pop => observe_return(tid, steps, target, observer),
         JumpKind::PopPush => observe_return_and_call(tid, steps, target, back, observer),
@@ -343,7 +315,7 @@ pub fn observe_told<W: Observer>(
     ensures same { W.fits observer.new ≡ W.fits observer.old }
 {
     match advanced {
-        Advanced::Ran => inline_access(tid, steps, Access::Nothing, observer),
+        Advanced::Ran => observe_nothing(tid, steps, observer),
         Advanced::Accessed { access } => observe_access(tid, steps, access, observer),
         Advanced::Jumped { jump, target, back } => {
             observe_jump(tid, steps, jump, target, back, observer)
