@@ -4,7 +4,7 @@ use Rattle.std.specs.Prelude.{All, IfSome, is_some, slice_get, slice_index}
 use Rattle.std.specs.Prelude.{◌==◌}
 use Rattle.std.specs.List.{range_with_len}
 use Rattle.std.specs.Option.{option_map_or}
-use Rattle.std.proofs.lemmas.Bool.{cases_eq, eq-eqb}
+use Rattle.std.proofs.lemmas.Bool.{cases_eq, cases_lt, eq-eqb}
 use Rattle.guest_words.proofs.ThreadTables.{value_of-with}
 use Rattle.std.proofs.lemmas.Int.{ints}
 use Rattle.std.proofs.lemmas.List.FromFn.{length-map-range_with_len}
@@ -14,12 +14,14 @@ use Rattle.std.proofs.lemmas.List.Elements.{All-nil, All-cons, All-append, All-h
 use Rattle.guest_words.specs.ByThread.{value_of, with_value}
 use Rattle.shadow_stack.specs.declared.sums.Sums.{Sums}
 use Rattle.stamp_lanes.specs.Plain.{Place, is_foreign}
-use Rattle.shadow_stack.specs.Frames.{Frame, FitsSums, IsLastAtMost, added, plus, starts_of}
+use Rattle.shadow_stack.specs.Frames.{Frame, FitsSums, IsMoved, added, plus, starts_of}
 use Rattle.shadow_pages.specs.Pages.{Page, covers, in_range, stamp_at}
-use Rattle.stamp_renumber.specs.Threads.{Live, Stamped, calls_of, frames_of, pages_of, spare_of, stamped}
+use Rattle.stamp_renumber.specs.Threads.{Live, Stamped, calls_of, frames_of, own_of, pages_of, spare_of, stamped}
+use Rattle.stamp_renumber.specs.WordRead.{IsWordRead}
 use Rattle.call_tracker.specs.ThreadCalls.{no_counts}
 use Rattle.stamp_renumber.specs.LentThread.{with_pages}
-use Rattle.stamp_renumber.proofs.Changed.{length_changed, unchanged}
+use Rattle.shadow_stack.proofs.Places.{length_changed}
+use Rattle.stamp_renumber.proofs.Changed.{unchanged}
 use Rattle.stamp_table.specs.Frames.{added_to_top, negated, taken_at, gain, frames_after_read, frames_after_reads}
 use Rattle.shadow_core.specs.Private.Parts.{taken}
 use Rattle.stamp_table.proofs.Frames.{same_sums, starts-reads}
@@ -138,26 +140,18 @@ unmoved p top fs list is long low =
     sym (ap (reverse {A = Frame}) (given_back top (gain p) fs))
     ∙ reads_where_found p (Some top) top fs (omega (arith, size), here, λ i up lt. absurd (omega (arith, up, lt, size))) long
 
-module _ (old mid new : Live) (t top : ℕ) (p : Place) (place : Option ℕ) (by : Sums) (list : List Frame) (lives : is_some (value_of old.threads t) ≡ true) (counted : by ≡ gain p)
-    (first : IsChanged old mid t (taken by place (frames_of old.threads t)) (pages_of old.threads t)) (second : IsChanged mid new t (added top by (frames_of mid.threads t)) (pages_of mid.threads t))
-    (is : list ≡ frames_of old.threads t) (last : IsLastAtMost (starts_of list) p.own place) (long : length (frames_of old.threads t) ≡ top + 1) where
-  abbrev fs : List Frame
-  fs = frames_of old.threads t
-
-  pub moved : reverse (frames_of new.threads t) ≡ frames_after_read p (reverse (frames_of old.threads t))
-  moved =
-      let there = lives_changed old mid t (taken by place fs) (pages_of old.threads t) lives first in
-      ap (reverse {A = Frame}) (frames_changed mid new t (added top by (frames_of mid.threads t)) (pages_of mid.threads t) there second
-      ∙ ap (added top by) (frames_changed old mid t (taken by place fs) (pages_of old.threads t) lives first)
-      ∙ ap (λ s. added top s (taken s place fs)) counted)
-      ∙ reads_where_found p place top fs (subst (λ (gs : List Frame). IsLastAtMost (starts_of gs) p.own place) is last) long
-
-  pub moved_alone : IsChanged old new t (frames_of new.threads t) (pages_of old.threads t)
-  moved_alone =
-      let there = lives_changed old mid t (taken by place fs) (pages_of old.threads t) lives first in
-      let both = changed_twice old mid t (taken by place fs) (pages_of old.threads t) lives first new (added top by (frames_of mid.threads t)) (pages_of mid.threads t) second in
-      let pages = pages_changed mid new t (added top by (frames_of mid.threads t)) (pages_of mid.threads t) there second ∙ pages_changed old mid t (taken by place fs) (pages_of old.threads t) lives first in
-      subst (λ (ps : List Page). IsChanged old new t (frames_of new.threads t) ps) pages (changed_own old new t (added top by (frames_of mid.threads t)) (pages_of mid.threads t) lives both)
+-- what a read of one word moves
+frames_moved : (p : Place) (by back : Sums) (fs gs : List Frame) → by ≡ gain p → back ≡ negated by → IsMoved p.own by back fs gs → reverse gs ≡ frames_after_read p (reverse fs)
+frames_moved p by back fs gs counted returned h =
+    let long : length fs ≡ h.top + 1 = omega (arith, h.depth) in
+    let given : back ≡ negated (gain p) = returned ∙ ap negated counted in
+    elim (cases_lt p.own (slice_index (starts_of fs) h.top)) [
+      | inl above ↦
+          let m = h.moved above in
+          ap (reverse {A = Frame}) (m.2 ∙ (λ i. added h.top (counted i) (option_map_or (λ k. added k (given i) fs) m.0 fs)))
+          ∙ reads_where_found p m.0 h.top fs m.1 long
+      | inr low ↦ ap (reverse {A = Frame}) (h.still low) ∙ unmoved p h.top fs fs refl long low
+    ]
 
 -- ---- stamps
 pub in_one : (w v : ℕ) → in_range w 1 v ≡ (v == w)
@@ -176,33 +170,26 @@ lent_changed live t pages lives =
       marks = refl;
     }
 
--- one word is read, and its stamp is set
-module _ (old mid : Live) (t : ℕ) (write marks : ℕ → ℕ) (w stamp : ℕ) (p : Place) (pages : List Page) (lives : is_some (value_of old.threads t) ≡ true) (changed : IsChanged old mid t (frames_of mid.threads t) (pages_of old.threads t))
-    (own : p.own ≡ stamp_at (pages_of old.threads t) w) (written : p.write ≡ write w) (frames : reverse (frames_of mid.threads t) ≡ frames_after_read p (reverse (frames_of old.threads t)))
-    (this : stamp_at pages w ≡ stamp) (others : (v : ℕ) → v ≢ w → stamp_at pages v ≡ stamp_at (pages_of mid.threads t) v) (covered : (v : ℕ) → covers pages v ≡ covers (pages_of mid.threads t) v) where
-  pub word_read : IsRead old (with_pages mid t pages) t write marks w 1 stamp
-  word_read =
-      let there = lives_changed old mid t (frames_of mid.threads t) (pages_of old.threads t) lives changed in
-      let same = pages_changed old mid t (frames_of mid.threads t) (pages_of old.threads t) lives changed in
-      let lent = lent_changed mid t pages there in
-      let new = with_pages mid t pages in
-      let are = pages_changed mid new t (frames_of mid.threads t) pages there lent in
-      let whole = changed_twice old mid t (frames_of mid.threads t) (pages_of old.threads t) lives changed new (frames_of mid.threads t) pages lent in
-      record {
-        changed = changed_own old new t (frames_of mid.threads t) pages lives whole;
-        frames =
-            ap (reverse {A = Frame}) (frames_changed mid new t (frames_of mid.threads t) pages there lent)
-            ∙ frames
-            ∙ (λ i. frames_after_read (record { own = own i; write = written i; mark = p.mark }) (reverse (frames_of old.threads t)));
-        stamps = λ v. ap (λ ps. stamp_at ps v) are ∙ stamp_of v same ∙ sym (ap (λ b. cond b stamp (stamp_at (pages_of old.threads t) v)) (in_one w v));
-        covered = λ v. ap (λ ps. covers ps v) are ∙ covered v ∙ ap (λ ps. covers ps v) same;
-      }
-    where
-      stamp_of : (v : ℕ) → pages_of mid.threads t ≡ pages_of old.threads t → stamp_at pages v ≡ cond (v == w) stamp (stamp_at (pages_of old.threads t) v)
-      stamp_of v same = elim (cases_eq v w) [
-        | inl is ↦ ap (λ m. stamp_at pages m) is ∙ this ∙ sym (ap (λ b. cond b stamp (stamp_at (pages_of old.threads t) v)) (eq-eqb v w is))
-        | inr differs ↦ others v differs ∙ ap (λ ps. stamp_at ps v) same ∙ sym (ap (λ b. cond b stamp (stamp_at (pages_of old.threads t) v)) (differ v w differs))
-      ]
+-- one word is read
+module _ (old new : Live) (t : ℕ) (write marks : ℕ → ℕ) (w stamp : ℕ) (p : Place) (by back : Sums)
+    (threads : new.threads ≡ with_value old.threads t (own_of new.threads t)) (room : new.marks ≡ old.marks)
+    (read : IsWordRead w p.own by back stamp (own_of old.threads t) (own_of new.threads t))
+    (counted : by ≡ gain p) (returned : back ≡ negated by) (own : p.own ≡ stamp_at (pages_of old.threads t) w) (written : p.write ≡ write w) where
+  stamp_of : (v : ℕ) → stamp_at (pages_of new.threads t) v ≡ cond (v == w) stamp (stamp_at (pages_of old.threads t) v)
+  stamp_of v = elim (cases_eq v w) [
+    | inl is ↦ ap (λ m. stamp_at (pages_of new.threads t) m) is ∙ read.this ∙ sym (ap (λ b. cond b stamp (stamp_at (pages_of old.threads t) v)) (eq-eqb v w is))
+    | inr differs ↦ read.others v differs ∙ sym (ap (λ b. cond b stamp (stamp_at (pages_of old.threads t) v)) (differ v w differs))
+  ]
+
+  pub word_read : IsRead old new t write marks w 1 stamp
+  word_read = record {
+    changed = record { threads = threads; calls = read.calls; kept = read.kept; marks = room };
+    frames =
+        frames_moved p by back (frames_of old.threads t) (frames_of new.threads t) counted returned read.frames
+        ∙ (λ i. frames_after_read (record { own = own i; write = written i; mark = p.mark }) (reverse (frames_of old.threads t)));
+    stamps = λ v. stamp_of v ∙ sym (ap (λ b. cond b stamp (stamp_at (pages_of old.threads t) v)) (in_one w v));
+    covered = read.covered;
+  }
 
 -- ---- reads, one after the other
 pub nothing_read : (live : Live) (t : ℕ) (write marks : ℕ → ℕ) (first stamp : ℕ) → is_some (value_of live.threads t) ≡ true → IsRead live live t write marks first 0 stamp

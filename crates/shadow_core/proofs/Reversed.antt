@@ -6,7 +6,7 @@ use Rattle.std.proofs.lemmas.List.{append_assoc, append-nil, reverse-append, len
 use Rattle.std.proofs.lemmas.List.Sums.{sum_by-append}
 use Rattle.shadow_stack.specs.declared.sums.Sums.{Sums}
 use Rattle.shadow_stack.specs.Frames.{Frame, IsLastAtMost, added, added_to_last, plus, starts_of}
-use Rattle.shadow_stack.proofs.Places.{last_added}
+use Rattle.shadow_stack.proofs.Places.{last_added, length_changed}
 use Rattle.stamp_table.specs.Frames.{added_to_top, negated, taken_at, gain, frames_after_read, pop, popped, frames_after_pops}
 use Rattle.shadow_core.specs.Private.Parts.{PushesInFront, taken, TakesWhereFound, AddsToTheTop, AddsAtTheLast, ReadsWhereFound, PopsTheTop, PopsInOrder, PopsGoOn, ReadsGoOn, ReadsOneMore, CountsGoOn}
 
@@ -78,14 +78,9 @@ adds_to_the_top by (f ∷ g ∷ fs) =
 pub adds_at_the_last : AddsAtTheLast
 adds_at_the_last by k fs long = ap (reverse {A = Frame}) (last_added k by fs (long ∙ add-one k)) ∙ adds_to_the_top by fs
 
-length-added : (k : ℕ) (by : Sums) (fs : List Frame) → length (added k by fs) ≡ length fs
-length-added k by [] = refl
-length-added zero by (f ∷ fs) = refl
-length-added (suc k) by (f ∷ fs) = omega (arith, length-added k by fs)
-
 length-taken : (by : Sums) (place : Option ℕ) (fs : List Frame) → length (taken by place fs) ≡ length fs
 length-taken by None fs = refl
-length-taken by (Some k) fs = length-added k (negated by) fs
+length-taken by (Some k) fs = length_changed k (negated by) fs
 
 pub reads_where_found : ReadsWhereFound
 reads_where_found p place k fs last long =

@@ -6,7 +6,7 @@ ghost use Rattle.std.specs.Vec.{vec_capacity};
 ghost use Rattle.trace_model.specs.Activations.{count_returned};
 ghost use Rattle.trace_model.specs.Depth.{count_begun, is_within, pending};
 ghost use Rattle.trace_model.specs.Observing.{MayStepBy, MayTake, with_steps};
-ghost use Rattle.shadow_pages.specs.Pages.{AreCovered};
+ghost use Rattle.shadow_pages.specs.Pages.{AreCovered, HasPlace, stamp_at};
 ghost use Rattle.stamp_renumber.specs.Threads.{all_starts, calls_of, pages_of};
 ghost use Rattle.shadow_core.specs.declared.apply_error.ApplyError.TheVariants.{Memory, TooDeep};
 ghost use Rattle.shadow_core.specs.Applying.{HasSamePages, IsTaken, DoesNotAllocate};
@@ -24,7 +24,7 @@ use crate::ApplyError;
 use crate::advance::advance;
 use crate::cover::{add_with_room, cover, cover_own};
 use crate::endings::{end_calls, record_call};
-use crate::reads::{is_fresh, read};
+use crate::reads::{Access, access_of, read, read_at};
 use crate::rows::ZeroRows;
 use crate::writes::{fill, is_written, write};
 use guest_words::{Addr, Tid, Word};
@@ -456,14 +456,60 @@ impl<S: Lanes> Profiler<S> {
         ensures pages { AreCovered (pages_of self.old.live.threads tid) first count
             → HasSamePages self.old self.new }
     {
-        if count == 1 && is_fresh(&self.threads, tid, first, self.counter) {
-            self.weight += 2;
-            return Ok(());
+        if count == 1 {
+            if let Some(access) = access_of(&self.threads, tid, first) {
+                self.read_known(tid, first, access);
+                return Ok(());
+            }
         }
         self.read_anew(tid, first, count)
     }
 
-    // The same, where a stamp may change.
+    // A read of one word whose page the thread has. Where the counter has not moved since the thread's access, it changes no
+    // stamp and no sum.
+    #[inline(always)]
+    fn read_known(&mut self, tid: Tid, w: Word, access: Access<S>)
+        requires may { MayTake (StandsFor S.MAX) self.old (Read tid w 1) }
+        requires place { HasPlace (pages_of self.old.live.threads tid) w access.place }
+        requires own { S.number_of access.stamp ≡ stamp_at (pages_of self.old.live.threads tid) w }
+        ensures table { table_of_state self.new
+            ≡ table_after (bounded_tick S.MAX) (Read tid w 1) (table_of_state self.old) }
+        ensures pages { HasSamePages self.old self.new }
+    {
+        if access.stamp.number() == self.counter {
+            self.weight += 2;
+        } else {
+            self.read_old(tid, w, access);
+        }
+    }
+
+    // The same, where the counter has moved.
+    #[inline(never)]
+    fn read_old(&mut self, tid: Tid, w: Word, access: Access<S>)
+        requires may { MayTake (StandsFor S.MAX) self.old (Read tid w 1) }
+        requires place { HasPlace (pages_of self.old.live.threads tid) w access.place }
+        requires own { S.number_of access.stamp ≡ stamp_at (pages_of self.old.live.threads tid) w }
+        ensures table { table_of_state self.new
+            ≡ table_after (bounded_tick S.MAX) (Read tid w 1) (table_of_state self.old) }
+        ensures pages { HasSamePages self.old self.new }
+    {
+        let now = S::from_number(self.counter);
+        let found = read_at(
+            &mut self.threads,
+            tid,
+            w,
+            access,
+            &self.writes,
+            &self.marks,
+            now,
+        );
+        let calls = self.threads.calls_mut(tid);
+        calls.add_found(found.thread, found.kernel);
+        self.weight += 2;
+    }
+
+    // A read of several words, or of one whose page the thread may not have.
+    #[cold]
     #[inline(never)]
     fn read_anew(&mut self, tid: Tid, first: Word, count: u32) -> Result<(), AllocError>
         requires { MayTake (StandsFor S.MAX) self.old (Read tid first count) }

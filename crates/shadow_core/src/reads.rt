@@ -1,5 +1,5 @@
 //! A read of words: what it changes in the frames and the stamps of the thread that reads.
-ghost use Rattle.std.specs.Prelude.{◌≡◌, ◌≤◌, ◌<◌, ◌+◌, ◌%◌, ◌^◌, ◌∷◌, [], ℕ, All, Some, count_by, is_some, length, pos, reverse, true};
+ghost use Rattle.std.specs.Prelude.{◌≡◌, ◌≤◌, ◌<◌, ◌+◌, ◌%◌, ◌^◌, ◌∷◌, [], ℕ, All, IfSome, count_by, is_some, length, pos, true};
 ghost use Rattle.std.specs.List.{range_with_len};
 ghost use Rattle.guest_words.specs.ByThread.{value_of};
 ghost use Rattle.shadow_pages.specs.Pages.{AreCovered, HasPlace, covers, stamp_at};
@@ -7,14 +7,13 @@ ghost use Rattle.shadow_stack.specs.Frames.{starts_of};
 ghost use Rattle.stamp_lanes.specs.Plain.{is_by_kernel, is_by_thread};
 ghost use Rattle.stamp_renumber.specs.Threads.{frames_of, pages_of};
 ghost use Rattle.stamp_table.specs.Allows.{AreWithin};
-ghost use Rattle.stamp_table.specs.Frames.{frames_after_read, gain, negated};
-ghost use Rattle.shadow_core.specs.Private.Parts.{taken};
-ghost use Rattle.shadow_core.specs.Private.Reading.{AreSmall, IsChanged, IsRead, places_at};
+ghost use Rattle.stamp_table.specs.Frames.{gain, negated};
+ghost use Rattle.shadow_core.specs.Private.Reading.{AreSmall, IsRead, places_at};
 
 use crate::rows::{ZeroRows, read_page, row_of};
 use guest_words::{Tid, Word};
 use shadow_pages::Shadow;
-use shadow_stack::{Sums, last_at_most};
+use shadow_stack::Sums;
 use stamp_lanes::{Bulk, Lanes};
 use stamp_renumber::Threads;
 use stamps::Stamp;
@@ -43,64 +42,49 @@ fn below_zero(by: Sums) -> Sums
     }
 }
 
-// Takes something from the sums of the thread's frame at the place, if there is one.
-fn take<S: Lanes>(threads: &mut Threads<S>, tid: Tid, place: Option<usize>, by: Sums)
-    requires lives { is_some (value_of threads.old.threads tid) ≡ true }
-    requires small { AreSmall by }
-    requires within { (i : ℕ) → place ≡ Some i → i < length (frames_of threads.old.threads tid) }
-    requires sums { AreWithin (2 ^ 62 + 2 ^ 31) (frames_of threads.old.threads tid) }
-    ensures { IsChanged threads.old threads.new tid
-        (taken by place (frames_of threads.old.threads tid)) (pages_of threads.old.threads tid) }
-{
-    match place {
-        Some(i) => threads.add_sum(tid, i, below_zero(by)),
-        None => {}
-    }
+/// Where a thread's access to a word is kept, and its stamp.
+#[derive(Clone, Copy)]
+pub(crate) struct Access<S: Stamp> {
+    // the place of its page
+    place: usize,
+    pub(crate) stamp: S,
 }
 
-// What a read of a word changes in the thread's frames, by the stamps of its access and of the latest write.
+/// The thread's access to a word, where it has the word's page.
 #[inline(always)]
-fn read_frames<S: Lanes>(threads: &mut Threads<S>, tid: Tid, own: S, write: S)
-    requires lives { is_some (value_of threads.old.threads tid) ≡ true }
-    requires some { 1 ≤ length (frames_of threads.old.threads tid) }
-    requires sums { AreWithin (2 ^ 62 + 2 ^ 31) (frames_of threads.old.threads tid) }
-    ensures frames { reverse (frames_of threads.new.threads tid)
-        ≡ frames_after_read (record { own = S.number_of own; write = S.number_of write; mark = 0 })
-        (reverse (frames_of threads.old.threads tid)) }
-    ensures changed { IsChanged threads.old threads.new tid (frames_of threads.new.threads tid)
-        (pages_of threads.old.threads tid) }
+pub(crate) fn access_of<S: Lanes>(threads: &Threads<S>, tid: Tid, w: Word) -> Option<Access<S>>
+    requires lives { is_some (value_of threads.now.threads tid) ≡ true }
+    ensures place { IfSome result (λ a. HasPlace (pages_of threads.now.threads tid) w a.place) }
+    ensures own { IfSome result (λ a. S.number_of a.stamp ≡ stamp_at (pages_of threads.now.threads tid) w) }
+    ensures some { is_some result ≡ covers (pages_of threads.now.threads tid) w }
 {
-    let top = threads.frames(tid).depth() - 1;
-    let start = threads.frames(tid).start_at(top);
-    if own.number() < start.number() {
-        let gain = gain_of(own, write);
-        let place = last_at_most(threads.frames(tid), own);
-        take(threads, tid, place, gain);
-        threads.add_sum(tid, top, gain);
-    }
+    let shadow = threads.shadow(tid);
+    let place = shadow.find(w)?;
+    let stamp = shadow.get_at(place, w);
+    Some(Access { place, stamp })
 }
 
-// A read of one word, by the stamps of its access and of the latest write, and by the place of the page of its access.
+// A read of one word, by its access and by the stamp of the latest write.
 #[inline(always)]
 fn read_stamped<S: Lanes>(
     threads: &mut Threads<S>,
     tid: Tid,
-    place: usize,
     w: Word,
-    own: S,
+    access: Access<S>,
     write: S,
     stamp: S,
 )
     requires lives { is_some (value_of threads.old.threads tid) ≡ true }
     requires some { 1 ≤ length (frames_of threads.old.threads tid) }
-    requires place { HasPlace (pages_of threads.old.threads tid) w place }
+    requires place { HasPlace (pages_of threads.old.threads tid) w access.place }
     requires sums { AreWithin (2 ^ 62 + 2 ^ 31) (frames_of threads.old.threads tid) }
-    requires own { S.number_of own ≡ stamp_at (pages_of threads.old.threads tid) w }
+    requires own { S.number_of access.stamp ≡ stamp_at (pages_of threads.old.threads tid) w }
     ensures { (writes marks : ℕ → ℕ) → S.number_of write ≡ writes w
         → IsRead threads.old threads.new tid writes marks w 1 (S.number_of stamp) }
 {
-    read_frames(threads, tid, own, write);
-    threads.shadow_mut(tid).set_at(place, w, stamp);
+    let Access { place, stamp: own } = access;
+    let gain = gain_of(own, write);
+    threads.read_word(tid, place, w, own, gain, below_zero(gain), stamp);
 }
 
 // A read of one word.
@@ -113,9 +97,8 @@ fn read_word<S: Lanes>(threads: &mut Threads<S>, tid: Tid, w: Word, writes: &Sha
     ensures { (marks : ℕ → ℕ) → IsRead threads.old threads.new tid
         (stamp_at writes.now.pages) marks w 1 (S.number_of stamp) }
 {
-    let place = threads.shadow(tid).place(w);
-    let own = threads.shadow(tid).get_at(place, w);
-    read_stamped(threads, tid, place, w, own, writes.get(w), stamp);
+    let access = access_of(threads, tid, w).unwrap();
+    read_stamped(threads, tid, w, access, writes.get(w), stamp);
 }
 
 // The word `i` places on.
@@ -236,6 +219,37 @@ fn foreign_word<S: Stamp>(own: S, write: S, marks: &Shadow<u8>, w: Word) -> Fore
     }
 }
 
+/// A read of one word, with what it counts, by the thread's access.
+#[inline(always)]
+pub(crate) fn read_at<S: Lanes>(
+    threads: &mut Threads<S>,
+    tid: Tid,
+    w: Word,
+    access: Access<S>,
+    writes: &Shadow<S>,
+    marks: &Shadow<u8>,
+    stamp: S,
+) -> Foreign
+    requires lives { is_some (value_of threads.old.threads tid) ≡ true }
+    requires some { 1 ≤ length (frames_of threads.old.threads tid) }
+    requires place { HasPlace (pages_of threads.old.threads tid) w access.place }
+    requires sums { AreWithin (2 ^ 62 + 2 ^ 31) (frames_of threads.old.threads tid) }
+    requires own { S.number_of access.stamp ≡ stamp_at (pages_of threads.old.threads tid) w }
+    ensures read { IsRead threads.old threads.new tid (stamp_at writes.now.pages)
+        (stamp_at marks.now.pages) w 1 (S.number_of stamp) }
+    ensures thread { result.thread ≡ count_by is_by_thread
+        (places_at (stamp_at (pages_of threads.old.threads tid)) (stamp_at writes.now.pages)
+        (stamp_at marks.now.pages) (range_with_len w 1)) }
+    ensures kernel { result.kernel ≡ count_by is_by_kernel
+        (places_at (stamp_at (pages_of threads.old.threads tid)) (stamp_at writes.now.pages)
+        (stamp_at marks.now.pages) (range_with_len w 1)) }
+{
+    let write = writes.get(w);
+    let found = foreign_word(access.stamp, write, marks, w);
+    read_stamped(threads, tid, w, access, write, stamp);
+    found
+}
+
 // A read of one word, with what it counts.
 #[inline(always)]
 fn read_one<S: Lanes>(
@@ -259,12 +273,8 @@ fn read_one<S: Lanes>(
         (places_at (stamp_at (pages_of threads.old.threads tid)) (stamp_at writes.now.pages)
         (stamp_at marks.now.pages) (range_with_len w 1)) }
 {
-    let place = threads.shadow(tid).place(w);
-    let own = threads.shadow(tid).get_at(place, w);
-    let write = writes.get(w);
-    let found = foreign_word(own, write, marks, w);
-    read_stamped(threads, tid, place, w, own, write, stamp);
-    found
+    let access = access_of(threads, tid, w).unwrap();
+    read_at(threads, tid, w, access, writes, marks, stamp)
 }
 
 /// Whether the thread has accessed the word since the counter last moved. Then a read of it changes no stamp and no sum.

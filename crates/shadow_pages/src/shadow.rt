@@ -1,5 +1,5 @@
 //! The pages, and the words by them.
-ghost use Rattle.std.specs.Prelude.{◌≡◌, ◌≢◌, ◌<◌, ◌≤◌, ◌+◌, ◌*◌, ◌/◌, ◌%◌, ◌^◌, ◌↔◌, ◌&&◌, ◌==◌, if◌then◌else◌, [], ℕ, Some, All, IfOk, IsOk, IsTrue, OnErr, OnOk, length, map, nat_le, nat_lt, slice_index, slice_set, true};
+ghost use Rattle.std.specs.Prelude.{◌≡◌, ◌≢◌, ◌<◌, ◌≤◌, ◌+◌, ◌*◌, ◌/◌, ◌%◌, ◌^◌, ◌↔◌, ◌&&◌, ◌==◌, if◌then◌else◌, [], ℕ, Some, All, IfOk, IfSome, IsOk, IsTrue, OnErr, OnOk, is_some, length, map, nat_le, nat_lt, slice_index, slice_set, true};
 ghost use Rattle.std.specs.Borrow.{sem};
 ghost use Rattle.shadow_pages.specs.Directory.{HasTable};
 ghost use Rattle.shadow_pages.specs.Pages.{AreCovered, AreDistinct, AreFresh, HasPlace, HasWord, HaveAll, IsFull, IsIndexed, IsLow, IsReserved, changed, covers, in_range, page_at, page_of, stamp_at, zeros};
@@ -109,13 +109,22 @@ impl<S: Stamp> Shadow<S> {
         }
     }
 
+    /// The place of the page that has the word, if one has it.
+    #[inline(always)]
+    pub fn find(&self, w: Word) -> Option<usize>
+        ensures place { IfSome result (HasPlace self.now.pages w) }
+        ensures some { is_some result ≡ covers self.now.pages w }
+    {
+        self.directory.place(w.number() >> 10)
+    }
+
     /// The place of the page that has the covered word.
     #[inline(always)]
     pub fn place(&self, w: Word) -> usize
         requires { covers self.now.pages w ≡ true }
         ensures { HasPlace self.now.pages w result }
     {
-        self.directory.place(w.number() >> 10).unwrap()
+        self.find(w).unwrap()
     }
 
     /// The stamp of the word, by the place of its page.

@@ -1,9 +1,10 @@
 -- Frames as a struct keeps them, and as contracts see them: what is changed at one place.
-use Rattle.std.proofs.Common.{◌≡◌, ℕ, zero, suc, ◌<◌, List, [], ◌∷◌, ◌++◌, length, map, get_or, take, refl, ap, ◌∙◌, arith}
-use Rattle.std.specs.Prelude.{slice_get, slice_index, slice_set, IfSome}
+use Rattle.std.proofs.Common.{◌≡◌, ◌≢◌, ℕ, zero, suc, ◌<◌, List, [], ◌∷◌, ◌++◌, length, map, get_or, take, refl, sym, ap, subst, ◌∙◌, arith}
+use Rattle.std.specs.Prelude.{Option, None, Some, slice_get, slice_index, slice_set, IfSome}
+use Rattle.std.specs.Option.{option_map_or}
 use Rattle.std.proofs.lemmas.List.{length-append, get_or_append_left}
 use Rattle.shadow_stack.specs.declared.sums.Sums.{Sums}
-use Rattle.shadow_stack.specs.Frames.{Frame, FitsPop, FitsSums, starts_of, IsRising, changed, added, added_to_last, plus, restarted}
+use Rattle.shadow_stack.specs.Frames.{Frame, FitsPop, FitsSums, starts_of, IsLastAtMost, IsRising, changed, added, added_to_last, plus, restarted}
 
 -- the things kept, each with a start and sums
 module _ {X : Type 0} (start : X → ℕ) (sums : X → Sums) where
@@ -24,6 +25,36 @@ module _ {X : Type 0} (start : X → ℕ) (sums : X → Sums) where
   starts-set [] i old new within was is = absurd (omega (arith, within))
   starts-set (y ∷ xs) zero old new within was is = ap (λ s. s ∷ map start xs) (is ∙ ap start was)
   starts-set (y ∷ xs) (suc i) old new within was is = ap (λ ss. start y ∷ ss) (starts-set xs i old new (omega (arith, within)) was is)
+
+-- ---- a change at one place
+pub length_changed : (i : ℕ) (by : Sums) (frames : List Frame) → length (added i by frames) ≡ length frames
+length_changed i by [] = refl
+length_changed zero by (f ∷ frames) = refl
+length_changed (suc i) by (f ∷ frames) = ap suc (length_changed i by frames)
+
+-- leaves the others
+get_apart : (i k : ℕ) (by : Sums) (frames : List Frame) → i ≢ k → slice_get (added i by frames) k ≡ slice_get frames k
+get_apart i k by [] apart = refl
+get_apart zero zero by (f ∷ frames) apart = absurd (apart refl)
+get_apart zero (suc k) by (f ∷ frames) apart = refl
+get_apart (suc i) zero by (f ∷ frames) apart = refl
+get_apart (suc i) (suc k) by (f ∷ frames) apart = get_apart i k by frames (λ same. apart (ap suc same))
+
+-- something is added at a place, if there is one
+abbrev pub added_if : Sums → Option ℕ → List Frame → List Frame
+added_if by place frames = option_map_or (λ i. added i by frames) place frames
+
+pub length_added_if : (by : Sums) (place : Option ℕ) (frames : List Frame) → length (added_if by place frames) ≡ length frames
+length_added_if by None frames = refl
+length_added_if by (Some i) frames = length_changed i by frames
+
+-- the innermost frame is another than the last one that started at or before an earlier stamp
+pub top_apart : (stamp top : ℕ) (by back : Sums) (place : Option ℕ) (frames : List Frame) → IsLastAtMost (starts_of frames) stamp place → stamp < slice_index (starts_of frames) top
+    → IfSome (slice_get frames top) (λ f. FitsSums (plus f.sums by)) → IfSome (slice_get (added_if back place frames) top) (λ f. FitsSums (plus f.sums by))
+top_apart stamp top by back None frames last above fits = fits
+top_apart stamp top by back (Some i) frames last above fits =
+    let apart : i ≢ top = λ same. absurd (omega (arith, above, last.1, ap (slice_index (starts_of frames)) same)) in
+    subst (λ (o : Option Frame). IfSome o (λ f. FitsSums (plus f.sums by))) (sym (get_apart i top back frames apart)) fits
 
 -- one more frame has its new start
 pub restarted_next : (starts : List ℕ) (frames : List Frame) (i : ℕ) → i < length starts → i < length frames →

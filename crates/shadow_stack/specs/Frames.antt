@@ -1,6 +1,7 @@
 -- The frames of a thread, the outermost first.
 use Rattle.std.proofs.Common.{zero, suc}
 use Rattle.std.specs.Prelude.{◌≡◌, ℕ, ◌-◌, ◌<◌, ◌≤◌, ◌^◌, ℤ, pos, negsuc, ◌+ℤ◌, ◌≤ℤ◌, List, [], ◌∷◌, ◌++◌, map, length, slice_index, Option, Some, None}
+use Rattle.std.specs.Option.{option_map_or}
 use Rattle.shadow_stack.specs.declared.sums.Sums.{Sums}
 
 -- A frame: the start stamp of its activation, and its partial sums.
@@ -49,6 +50,15 @@ changed (suc i) change (f ∷ frames) = f ∷ changed i change frames
 -- something is added to its sums
 abbrev pub added : ℕ → Sums → List Frame → List Frame
 added i by frames = changed i (λ f. record f { sums = plus f.sums by }) frames
+
+-- Where the innermost frame started after the stamp, `by` is added to its sums, and `back` to those of the innermost frame that
+-- started at or before the stamp, if there is one. Else nothing changes.
+pub record IsMoved (stamp : ℕ) (by back : Sums) (old new : List Frame) : Type 0 where
+  pub top : ℕ
+  pub depth : length old ≡ suc top
+  pub moved : stamp < slice_index (starts_of old) top → (place : Option ℕ) × IsLastAtMost (starts_of old) stamp place
+      × (new ≡ added top by (option_map_or (λ i. added i back old) place old))
+  pub still : slice_index (starts_of old) top ≤ stamp → new ≡ old
 
 -- the frames have these starts
 abbrev pub restarted : List ℕ → List Frame → List Frame

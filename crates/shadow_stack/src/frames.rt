@@ -1,6 +1,7 @@
 //! The frames and their search.
-ghost use Rattle.std.specs.Prelude.{◌≡◌, ◌≤◌, ◌<◌, ◌+◌, ◌-◌, ◌*◌, ◌^◌, ◌++◌, ◌∷◌, [], ℕ, length, map, All, IfSome, IsOk, OnOk, OnErr, slice_get, slice_index};
-ghost use Rattle.shadow_stack.specs.Frames.{FitsPop, FitsSums, IsLastAtMost, IsPopped, IsRising, added, new_frame, plus, restarted, starts_of};
+ghost use Rattle.std.specs.Prelude.{◌≡◌, ◌≤◌, ◌<◌, ◌+◌, ◌-◌, ◌*◌, ◌^◌, ◌++◌, ◌∷◌, [], ℕ, length, map, All, IfSome, IsOk, Some, OnOk, OnErr, slice_get, slice_index};
+ghost use Rattle.std.specs.Option.{option_map_or};
+ghost use Rattle.shadow_stack.specs.Frames.{FitsPop, FitsSums, IsLastAtMost, IsMoved, IsPopped, IsRising, added, new_frame, plus, restarted, starts_of};
 
 use crate::{Steps, Sums};
 use stamps::Stamp;
@@ -97,6 +98,37 @@ impl<S: Stamp> Frames<S> {
     {
         let frame = &mut self.frames[i];
         frame.sums = frame.sums.plus(by);
+    }
+
+    // Adds to the sums of the frame at the place, if there is one.
+    #[inline(always)]
+    fn add_if(&mut self, place: Option<usize>, by: Sums)
+        requires within { (i : ℕ) → place ≡ Some i → i < length self.old.list }
+        requires fits { (i : ℕ) → IfSome (slice_get self.old.list i) (λ f. FitsSums (plus f.sums by)) }
+        ensures list { self.new.list ≡ option_map_or (λ i. added i by self.old.list) place self.old.list }
+        ensures kept { self.old.spare ≤ self.new.spare }
+    {
+        if let Some(i) = place {
+            self.add(i, by);
+        }
+    }
+
+    /// Where the innermost frame started after the stamp, adds `by` to its sums, and `back` to those of the innermost frame that
+    /// started at or before the stamp, if there is one. Else nothing changes. There is a frame.
+    #[inline(always)]
+    pub fn move_to_top(&mut self, stamp: S, by: Sums, back: Sums)
+        requires some { 1 ≤ length self.old.list }
+        requires fits { (i : ℕ) → IfSome (slice_get self.old.list i) (λ f. FitsSums (plus f.sums by)) }
+        requires fits_back { (i : ℕ) → IfSome (slice_get self.old.list i) (λ f. FitsSums (plus f.sums back)) }
+        ensures moved { IsMoved (S.number_of stamp) by back self.old.list self.new.list }
+        ensures kept { self.old.spare ≤ self.new.spare }
+    {
+        let top = self.depth() - 1;
+        if stamp.number() < self.start_at(top).number() {
+            let place = last_at_most(self, stamp);
+            self.add_if(place, back);
+            self.add(top, by);
+        }
     }
 
     /// Takes the innermost frame, and hands its sums down: they are added to the frame below, if there is one.

@@ -11,7 +11,7 @@ use Rattle.shadow_stack.specs.declared.sums.Sums.{Sums}
 use Rattle.shadow_stack.specs.Frames.{Frame, IsPopped, added, added_to_last, starts_of}
 use Rattle.stamp_renumber.specs.Kept.{IsKept}
 use Rattle.call_tracker.specs.ThreadCalls.{Calls, no_counts}
-use Rattle.stamp_renumber.specs.Threads.{Stamped, all_starts, calls_of, frames_of, pages_of, spare_of, stamped}
+use Rattle.stamp_renumber.specs.Threads.{Stamped, all_starts, calls_of, frames_of, own_of, pages_of, spare_of, stamped}
 
 -- ---- how many frames there are
 pub starts_long : (x : ℕ × Stamped) (xs : List (ℕ × Stamped)) → length (all_starts (x ∷ xs)) ≡ length x.1.frames + length (all_starts xs)
@@ -119,6 +119,24 @@ module _ (xs threads : List (ℕ × Stamped)) (is : xs ≡ threads) (t : ℕ) (o
   now : (new : Stamped) → value_of (with_value xs t new) t ≡ Some new
   now new = value_of-with xs t new old here t ∙ ap (λ b. cond b (Some new) (value_of xs t)) (eq-eqb t t refl)
 
+  -- the thread as it was, and as it is
+  abbrev own_in : Option Stamped → Stamped
+  own_in o = record {
+    frames = option_map_or (λ (s : Stamped). s.frames) o [];
+    spare = option_map_or (λ (s : Stamped). s.spare) o 0;
+    pages = option_map_or (λ (s : Stamped). s.pages) o [];
+    calls = calls_in o;
+  }
+
+  pub own_was : own_of threads t ≡ old
+  own_was = ap own_in there
+
+  pub own_is : (new : Stamped) → own_of (with_value xs t new) t ≡ new
+  own_is new = ap own_in (now new)
+
+  pub changed_own : (new : Stamped) → with_value xs t new ≡ with_value threads t (own_of (with_value xs t new) t)
+  changed_own new = ap₂ (λ (ys : List (ℕ × Stamped)) (s : Stamped). with_value ys t s) is (sym (own_is new))
+
   pub frames_are : (new : Stamped) → frames_of (with_value xs t new) t ≡ new.frames
   frames_are new = ap (λ (o : Option Stamped). option_map_or (λ (s : Stamped). s.frames) o []) (now new)
 
@@ -168,11 +186,6 @@ popped_one old new sums p =
     let long = ap length p.2 in
     let less = ap length p.4 in
     omega (arith, long, less, length-append outer (top ∷ []), length_added sums outer)
-
-pub length_changed : (i : ℕ) (by : Sums) (frames : List Frame) → length (added i by frames) ≡ length frames
-length_changed i by [] = refl
-length_changed zero by (f ∷ frames) = refl
-length_changed (suc i) by (f ∷ frames) = ap suc (length_changed i by frames)
 
 -- what holds after both answers
 pub either : {T E X : Type 0} (r : Result T E) (P : X → Type 0) (x : X) → OnOk r (P x) → OnErr r (P x) → P x

@@ -47,3 +47,7 @@ HasRoom live t = (1 ≤ spare_of live.threads t) × (1 ≤ (calls_of live.thread
 -- a thread with these frames and pages, and the room and the calls that it has among the threads
 abbrev pub stamped : List (ℕ × Stamped) → ℕ → List Frame → List Page → Stamped
 stamped threads t frames pages = record { frames = frames; spare = spare_of threads t; pages = pages; calls = calls_of threads t }
+
+-- the thread as it is
+abbrev pub own_of : List (ℕ × Stamped) → ℕ → Stamped
+own_of threads t = stamped threads t (frames_of threads t) (pages_of threads t)

@@ -1,18 +1,20 @@
 //! What is kept of a thread.
-ghost use Rattle.std.specs.Prelude.{◌≡◌, ◌≤◌, ◌<◌, ◌+◌, ◌*◌, ◌++◌, ◌∷◌, [], All, Contains, IfOk, IfSome, OnOk, Some, length, map, slice_get};
+ghost use Rattle.std.specs.Prelude.{◌≡◌, ◌≤◌, ◌<◌, ◌+◌, ◌*◌, ◌++◌, ◌∷◌, [], ℕ, All, Contains, IfOk, IfSome, OnOk, Some, length, map, slice_get};
 ghost use Rattle.std.specs.Borrow.{sem};
 ghost use Rattle.std.specs.Vec.{vec_capacity};
 ghost use Rattle.std.specs.List.Sorted.{IsNonDecreasingBy};
 ghost use Rattle.shadow_stack.specs.Frames.{FitsPop, FitsSums, IsPopped, added, new_frame, plus, starts_of};
+ghost use Rattle.shadow_pages.specs.Pages.{HasPlace};
 ghost use Rattle.call_tracker.specs.ThreadCalls.{no_counts};
 ghost use Rattle.stamp_renumber.specs.Renumbered.{IsThreadRenumbered};
 ghost use Rattle.stamp_renumber.specs.Returned.{returned_by};
+ghost use Rattle.stamp_renumber.specs.WordRead.{IsWordRead};
 
 use crate::frames::renew_frames;
 use crate::pages::renew_accesses;
 use crate::rows::WorkRows;
 use call_tracker::{BegunCall, ThreadCalls, ThreadCounts};
-use guest_words::Addr;
+use guest_words::{Addr, Word};
 use shadow_pages::Shadow;
 use shadow_stack::{Frames, Sums};
 use stamp_lanes::Lanes;
@@ -154,6 +156,28 @@ impl<S: Stamp> ThreadStamps<S> {
         ensures kept { self.old.spare ≤ self.new.spare }
     {
         self.frames.add(i, by);
+    }
+
+    /// Reads a word, whose page is at the place: it gets the stamp, and the sums of the frames move by those that began before its
+    /// access and those that began after it.
+    #[inline(always)]
+    pub(crate) fn read_word(
+        &mut self,
+        place: usize,
+        w: Word,
+        own: S,
+        by: Sums,
+        back: Sums,
+        stamp: S,
+    )
+        requires place { HasPlace self.old.pages w place }
+        requires some { 1 ≤ length self.old.frames }
+        requires fits { (i : ℕ) → IfSome (slice_get self.old.frames i) (λ f. FitsSums (plus f.sums by)) }
+        requires fits_back { (i : ℕ) → IfSome (slice_get self.old.frames i) (λ f. FitsSums (plus f.sums back)) }
+        ensures { IsWordRead w (S.number_of own) by back (S.number_of stamp) self.old self.new }
+    {
+        self.frames.move_to_top(own, by, back);
+        self.shadow.set_at(place, w, stamp);
     }
 
     /// Takes the innermost frame and the innermost call. There is one of both.

@@ -1,19 +1,21 @@
 //! The live threads.
-ghost use Rattle.std.specs.Prelude.{◌≡◌, ◌≤◌, ◌<◌, ◌+◌, ◌*◌, ◌++◌, ◌∷◌, [], Some, true, All, IfOk, IfSome, IsOk, OnErr, OnOk, is_some, length, slice_get};
+ghost use Rattle.std.specs.Prelude.{◌≡◌, ◌≤◌, ◌<◌, ◌+◌, ◌*◌, ◌++◌, ◌∷◌, [], ℕ, Some, true, All, IfOk, IfSome, IsOk, OnErr, OnOk, is_some, length, slice_get};
 ghost use Rattle.std.specs.Borrow.{sem};
 ghost use Rattle.guest_words.specs.ByThread.{numbers, value_of, with_value, without_thread};
 ghost use Rattle.shadow_stack.specs.Frames.{FitsPop, FitsSums, IsPopped, added, new_frame, plus, starts_of};
+ghost use Rattle.shadow_pages.specs.Pages.{HasPlace};
 ghost use Rattle.call_tracker.specs.ThreadCalls.{no_counts};
 ghost use Rattle.stamp_renumber.specs.Returned.{IsReturned};
-ghost use Rattle.stamp_renumber.specs.Threads.{HasRoom, all_starts, calls_of, frames_of, pages_of, spare_of, stamped};
+ghost use Rattle.stamp_renumber.specs.Threads.{HasRoom, all_starts, calls_of, frames_of, own_of, pages_of, spare_of, stamped};
 ghost use Rattle.stamp_renumber.specs.Ticks.{IsRenumbered};
+ghost use Rattle.stamp_renumber.specs.WordRead.{IsWordRead};
 
 use crate::pages::renew_writes;
 use crate::renumbering::{renumber_threads, sorted_starts};
 use crate::rows::WorkRows;
 use crate::thread_stamps::{EndedCall, Returned, ThreadStamps};
 use call_tracker::ThreadCalls;
-use guest_words::{Addr, ByThread, Tid};
+use guest_words::{Addr, ByThread, Tid, Word};
 use shadow_pages::Shadow;
 use shadow_stack::{Frames, Sums};
 use stamp_lanes::Lanes;
@@ -182,6 +184,35 @@ impl<S: Lanes> Threads<S> {
         ensures marks { self.new.marks ≡ self.old.marks }
     {
         self.threads.get_mut(tid).unwrap().add(i, by);
+    }
+
+    /// Reads a word in the thread, whose page is at the place: it gets the stamp, and the sums of the thread's frames move, by its
+    /// old stamp, `own`. The thread is looked up once.
+    #[inline(always)]
+    pub fn read_word(
+        &mut self,
+        tid: Tid,
+        place: usize,
+        w: Word,
+        own: S,
+        by: Sums,
+        back: Sums,
+        stamp: S,
+    )
+        requires lives { is_some (value_of self.old.threads tid) ≡ true }
+        requires place { HasPlace (pages_of self.old.threads tid) w place }
+        requires some { 1 ≤ length (frames_of self.old.threads tid) }
+        requires fits { (i : ℕ) → IfSome (slice_get (frames_of self.old.threads tid) i)
+            (λ f. FitsSums (plus f.sums by)) }
+        requires fits_back { (i : ℕ) → IfSome (slice_get (frames_of self.old.threads tid) i)
+            (λ f. FitsSums (plus f.sums back)) }
+        ensures threads { self.new.threads ≡ with_value self.old.threads tid (own_of self.new.threads tid) }
+        ensures read { IsWordRead w (S.number_of own) by back (S.number_of stamp)
+            (own_of self.old.threads tid) (own_of self.new.threads tid) }
+        ensures marks { self.new.marks ≡ self.old.marks }
+    {
+        let thread = self.threads.get_mut(tid).unwrap();
+        thread.read_word(place, w, own, by, back, stamp);
     }
 
     /// Ends the thread's innermost call: its frame is popped, and its sums are added to the frame below. There is a frame, and a

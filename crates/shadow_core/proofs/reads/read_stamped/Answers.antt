@@ -1,36 +1,18 @@
-use Rattle.std.proofs.Common.{◌∙◌, ap, sym, subst}
+use Rattle.std.proofs.Common.{◌+◌, ◌^◌, arith}
 use Rattle.stamp_lanes.specs.Plain.{Place}
-use Rattle.shadow_pages.specs.Pages.{HasPlace, Pages, covers, stamp_at}
-use Rattle.stamp_renumber.specs.Threads.{frames_of, pages_of}
-use Rattle.shadow_core.proofs.Reading.{lives_changed, pages_changed, word_read}
+use Rattle.stamp_renumber.specs.Threads.{frames_of}
+use Rattle.shadow_core.proofs.Reading.{one_fits, word_read}
 use Rattle.shadow_core.proofs.reads.read_stamped.Goals as goal
 
-pub shadow_mut-requires : goal.shadow_mut-requires
-shadow_mut-requires g c =
-    let old = c.args.threads.now in
-    let mid = c.read_frames.new.threads in
-    let t = c.args.tid in
-    lives_changed old mid t (frames_of mid.threads t) (pages_of old.threads t) c.requires.lives c.read_frames.ensures.changed
+pub read_word-requires-clause-fits : goal.read_word-requires-clause-fits
+read_word-requires-clause-fits g c = λ i. one_fits (2 ^ 62 + 2 ^ 31) i c.gain_of-gain.result (frames_of c.args.threads.now.threads c.args.tid) (omega arith) c.requires.sums c.gain_of-gain.ensures.small
 
-pub set_at-requires : goal.set_at-requires
-set_at-requires g c =
-    let old = c.args.threads.now in
-    let mid = c.read_frames.new.threads in
-    let t = c.args.tid in
-    let same = pages_changed old mid t (frames_of mid.threads t) (pages_of old.threads t) c.requires.lives c.read_frames.ensures.changed in
-    subst (λ ps. HasPlace ps c.args.w c.args.place) (sym (ap (λ (s : Pages). s.pages) c.shadow_mut.ensures.value ∙ same)) c.requires.place
+pub read_word-requires-clause-fits_back : goal.read_word-requires-clause-fits_back
+read_word-requires-clause-fits_back g c = λ i. one_fits (2 ^ 62 + 2 ^ 31) i c.below_zero.result (frames_of c.args.threads.now.threads c.args.tid) (omega arith) c.requires.sums c.below_zero.ensures.small
 
 pub returns : goal.returns
 returns g c = λ writes marks written.
     let f = g.S.Stamp.number_of in
-    let old = c.args.threads.now in
-    let mid = c.read_frames.new.threads in
-    let t = c.args.tid in
-    let p : Place = record { own = f c.args.own; write = f c.args.write; mark = 0 } in
-    let lent = c.shadow_mut.ensures.value in
-    word_read old mid t writes marks c.args.w (f c.args.stamp) p c.set_at.new.self.pages
-    c.requires.lives c.read_frames.ensures.changed
-    c.requires.own written c.read_frames.ensures.frames
-    c.set_at.ensures.this
-    (λ v ne. c.set_at.ensures.others v ne ∙ ap (λ (s : Pages). stamp_at s.pages v) lent)
-    (λ v. c.set_at.ensures.covered v ∙ ap (λ (s : Pages). covers s.pages v) lent)
+    let p : Place = record { own = f c.args.access.stamp; write = f c.args.write; mark = 0 } in
+    word_read c.args.threads.now c.read_word.new.self c.args.tid writes marks c.args.w (f c.args.stamp) p c.gain_of-gain.result c.below_zero.result
+    c.read_word.ensures.threads c.read_word.ensures.marks c.read_word.ensures.read c.gain_of-gain.ensures.value c.below_zero.ensures.value c.requires.own written

@@ -3,7 +3,8 @@ use Rattle.std.specs.Option.{option_copied_mut}
 use Rattle.guest_words.specs.ByThread.{value_of}
 use Rattle.shadow_stack.specs.Frames.{added}
 use Rattle.stamp_renumber.specs.Threads.{Live, Stamped, frames_of}
-use Rattle.stamp_renumber.proofs.Changed.{calls_are, calls_were, length_changed, changed_to, frames_were, kept_changed, spare_is, spare_was}
+use Rattle.shadow_stack.proofs.Places.{length_changed}
+use Rattle.stamp_renumber.proofs.Changed.{calls_are, calls_were, changed_to, frames_were, kept_changed, spare_is, spare_was}
 use Rattle.stamp_renumber.proofs.threads.Threads.add_sum.Goals as goal
 
 pub invariant_of-self : goal.invariant_of-self
