@@ -23,7 +23,7 @@ pub enum ElfError {
     /// The lowest byte does not come first.
     #[error("not a little-endian file")]
     ByteOrder = 4,
-    /// A version is not 1.
+    /// The version of the identification, or that of the file, is not 1.
     #[error("not of version 1")]
     Version = 5,
     /// The file is no executable.

@@ -1,4 +1,5 @@
-//! The numbers of the system calls on riscv32 (include/uapi/asm-generic/unistd.h of Linux).
+//! The numbers of the system calls on riscv32 (include/uapi/asm-generic/unistd.h of Linux). A name leaves out `64` and
+//! `_time64`: `NR_FUTEX` is the number of `futex_time64`.
 
 pub(crate) const NR_IOCTL: u32 = 29;
 

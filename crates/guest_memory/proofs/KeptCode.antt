@@ -9,7 +9,8 @@ use Rattle.guest_memory.specs.declared.refusal.MemError.{MemError}
 use Rattle.guest_memory.specs.declared.refusal.MemError.TheVariants as error
 use Rattle.guest_memory.specs.declared.refusal.Permission.TheVariants as permission
 use Rattle.guest_memory.specs.Memory.{Memory, AreFree, byte_refusal, bytes_at, first_refusal, is_among, loaded, number_at, page_refusal, unless_refused, with_bytes, with_pages, with_rights}
-use Rattle.guest_memory.specs.Code.{AgreeBut, IsInstructionAt, instruction_of}
+use Rattle.guest_memory.specs.Code.{IsInstructionAt}
+use Rattle.guest_memory.specs.Private.HeldCode.{AgreeBut, instruction_of}
 use Rattle.guest_memory.proofs.Accesses.{refusal_head}
 use Rattle.guest_memory.proofs.PageChanges.{among_none}
 use Rattle.guest_memory.proofs.WrittenBytes.{among_below, among_past}

@@ -6,7 +6,8 @@ use Rattle.std.proofs.lemmas.Bool.Decides.{nat_tests}
 use Rattle.std.proofs.lemmas.List.{get_or-set_other, get_or-set_same, get_or_past, get_or-replicate, length-replicate, get_or_append_left, get_or_push}
 use Rattle.guest_memory.specs.declared.refusal.Permission.TheVariants as permission
 use Rattle.guest_memory.specs.Memory.{Memory, loaded, with_bytes}
-use Rattle.guest_memory.specs.Code.{IsCodeOf, IsInstructionAt, instruction_of}
+use Rattle.guest_memory.specs.Code.{IsCodeOf, IsInstructionAt}
+use Rattle.guest_memory.specs.Private.HeldCode.{instruction_of}
 use Rattle.guest_memory.specs.Private.CodePages.{AreForgotten, IsIndex, known_in, no_code, page_at}
 use Rattle.guest_memory.proofs.KeptCode.{Holds, fetched, holds_after, is_instruction, loads_stay}
 use Rattle.rv_isa.specs.Table.{decoded}

@@ -9,12 +9,12 @@ use crate::code_page::{CodePage, PAGE_WORDS};
 use crate::directory::PAGE_SIZE;
 use guest_words::Addr;
 use guest_words::limits::PAGES;
-use rv_isa::{Instr, decode};
+use rv_isa::decode;
 use std::alloc::{AllocError, Global};
 
 /// The code of the pages that ran, decoded, and an index of it: 12 KiB for each page with code, of which there are no more
 /// than can be mapped, and 2 bytes for each number up to the greatest of such a page. The memory that the code is of is no
-/// part of it (specs/Code.antt).
+/// part of it (specs/Private/HeldCode.antt).
 #[derive(Drop)]
 pub struct CodeCache {
     // the code of no page, and that of each page that has some
@@ -26,7 +26,8 @@ pub struct CodeCache {
 }
 
 impl CodeCache {
-    ghost use Rattle.guest_memory.specs.Code.{AgreeBut, HoldsCode, IsCodeOf, IsInstructionAt};
+    ghost use Rattle.guest_memory.specs.Code.{IsCodeOf};
+    ghost use Rattle.guest_memory.specs.Private.HeldCode.{AgreeBut, HoldsCode};
 
     /// No instruction is known.
     pub fn new(alloc: Global) -> Result<CodeCache, AllocError>
@@ -64,15 +65,6 @@ impl CodeCache {
         ensures { (m : Memory) → HoldsCode self.now m → IfSome result (λ page. IsCodeOf m page.now) }
     {
         self.pages.get(place)
-    }
-
-    /// The instruction at an address, where it is known and the code of its page is at this place.
-    #[inline(always)]
-    pub fn find(&self, place: usize, at: Addr) -> Option<Instr>
-        requires { at % 4 ≡ 0 }
-        ensures { (m : Memory) → HoldsCode self.now m → IfSome result (IsInstructionAt m at) }
-    {
-        self.page_at(place)?.find(at)
     }
 
     // Makes the index reach to a page.

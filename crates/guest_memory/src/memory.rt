@@ -6,7 +6,8 @@ ghost use Rattle.std.specs.Int.{to_le_bytes, w32};
 ghost use Rattle.std.specs.Option.{is_none};
 ghost use Rattle.guest_memory.specs.Memory.{IsFreeRange, AreFree, AreMapped, ArePagesMapped, MapEnds, no_memory, with_pages, with_rights, byte_count, bytes_at, first_refusal, loaded, mapped_pages, unless_refused, with_bytes};
 ghost use Rattle.guest_memory.specs.State.{memory_in};
-ghost use Rattle.guest_memory.specs.Code.{HoldsCode, IsCodeOf, IsInstructionAt};
+ghost use Rattle.guest_memory.specs.Code.{IsCodeOf, IsInstructionAt};
+ghost use Rattle.guest_memory.specs.Private.HeldCode.{HoldsCode};
 ghost use Rattle.guest_memory.specs.declared.refusal.Permission.TheVariants as permission;
 ghost use Rattle.guest_words.specs.declared.limits.TheConstants.{PAGES};
 
@@ -193,7 +194,7 @@ impl GuestMemory {
         requires { at % 4 ≡ 0 }
         ensures { IfSome result (IsInstructionAt (memory_of self.now) at) }
     {
-        self.code.find(place, at)
+        self.code_page(place)?.find(at)
     }
 
     /// Decodes the instruction at an address, which is known from then on, where there is one whose word can be fetched. It

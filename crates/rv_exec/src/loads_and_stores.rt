@@ -66,7 +66,7 @@ fn store_size(kind: StoreKind) -> Size
     }
 }
 
-/// A load. Its code is short, so that it is inlined in the run's loop: `load_number` stands apart and answers in a register.
+/// A load. Its code is short, so that it is inlined in the machine's loop: `load_number` stands apart and answers in a register.
 #[inline(always)]
 pub fn load(cpu: &mut Cpu, memory: &GuestMemory, kind: LoadKind, rd: Reg, at: Addr) -> Outcome
     ensures { (result, cpu.new) ≡ loads kind rd at (memory_of memory.now) cpu.old }

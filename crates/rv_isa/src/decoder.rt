@@ -212,7 +212,7 @@ fn register(word: u32) -> Option<Instr>
 {
     match bits(word, 31, 25) {
         0x00 => integer_op(word),
-        0x20 => sub_or_sra(word),
+        0x20 => alternate_op(word),
         0x01 => multiply(word),
         _ => None,
     }
@@ -238,7 +238,7 @@ fn integer_op(word: u32) -> Option<Instr>
 }
 
 #[tactic(auto, using(crate::proofs::Rows::alternate_registers, std::proofs::lemmas::Bool::Decides::nat_tests))]
-fn sub_or_sra(word: u32) -> Option<Instr>
+fn alternate_op(word: u32) -> Option<Instr>
     requires operation { opcode word ≡ 0x33 }
     requires alternate { funct7 word ≡ 0x20 }
     ensures instruction { result ≡ decoded word }

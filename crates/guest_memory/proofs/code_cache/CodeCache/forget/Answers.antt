@@ -1,7 +1,7 @@
 use Rattle.std.proofs.Common.{◌≤◌, ◌∙◌, ◌+◌, ◌-◌, ap, arith, drop, length, length-take, subst, take}
 use Rattle.std.proofs.lemmas.List.{take_all}
 use Rattle.guest_memory.specs.Memory.{Memory, with_bytes}
-use Rattle.guest_memory.specs.Code.{HoldsCode}
+use Rattle.guest_memory.specs.Private.HeldCode.{HoldsCode}
 use Rattle.guest_memory.specs.Private.CodePages.{known_in}
 use Rattle.guest_memory.proofs.KeptCode.{holds_unwritten}
 use Rattle.guest_memory.proofs.WrittenBytes.{written_more}

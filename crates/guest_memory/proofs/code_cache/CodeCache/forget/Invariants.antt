@@ -1,6 +1,6 @@
 use Rattle.std.proofs.Common.{◌≡◌, ◌-◌, ◌≤◌, ℕ, List, length, take}
 use Rattle.guest_memory.specs.Memory.{Memory, with_bytes}
-use Rattle.guest_memory.specs.Code.{HoldsCode}
+use Rattle.guest_memory.specs.Private.HeldCode.{HoldsCode}
 use Rattle.guest_memory.proofs.code_cache.CodeCache.forget.Given as goal
 
 abbrev pub invariant-pages : goal.invariant-pages

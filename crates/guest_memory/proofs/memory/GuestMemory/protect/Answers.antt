@@ -1,5 +1,5 @@
 use Rattle.std.proofs.Common.{sym, subst}
-use Rattle.guest_memory.specs.Code.{HoldsCode}
+use Rattle.guest_memory.specs.Private.HeldCode.{HoldsCode}
 use Rattle.guest_memory.specs.State.{memory_in}
 use Rattle.guest_memory.proofs.KeptCode.{agree_rights}
 use Rattle.guest_memory.proofs.memory.GuestMemory.protect.Goals as goal

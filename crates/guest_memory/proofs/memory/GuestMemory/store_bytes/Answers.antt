@@ -1,5 +1,5 @@
 use Rattle.std.proofs.Common.{◌∙◌, ap, sym, subst, arith, ◌≡◌}
-use Rattle.guest_memory.specs.Code.{HoldsCode}
+use Rattle.guest_memory.specs.Private.HeldCode.{HoldsCode}
 use Rattle.guest_memory.specs.State.{memory_in}
 use Rattle.guest_memory.specs.Memory.{mapped_pages, with_bytes}
 use Rattle.guest_memory.proofs.memory.GuestMemory.store_bytes.Goals as goal
