@@ -146,11 +146,7 @@ fn shorten<T: Drop>(blocks: &mut Vec<Vec<T>>, place: Place) -> Result<Place, All
 }
 
 /// One item more, at a place, and where it stands then. A refusal changes no item.
-pub fn insert<T: Drop>(
-    blocks: &mut Vec<Vec<T>>,
-    place: Place,
-    item: T,
-) -> Result<Place, AllocError>
+pub fn insert<T: Drop>(blocks: &mut Vec<Vec<T>>, place: Place, item: T) -> Result<Place, AllocError>
     requires inside { place.block < length blocks.old.items }
     requires at { place.at ≤ length (get_or (map (λ v. v.items) blocks.old.items) place.block []) }
     requires filled { IsFilled (map (λ v. v.items) blocks.old.items) }

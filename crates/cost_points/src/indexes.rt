@@ -44,11 +44,7 @@ pub fn place_of<T>(blocks: &[Vec<T>], starts: &[usize], i: usize) -> Place
 }
 
 /// Where all blocks begin, from where some do. A refusal keeps what is known.
-pub fn extend<T>(
-    blocks: &[Vec<T>],
-    count: usize,
-    starts: &mut Vec<usize>,
-) -> Result<(), AllocError>
+pub fn extend<T>(blocks: &[Vec<T>], count: usize, starts: &mut Vec<usize>) -> Result<(), AllocError>
     requires starts { AreStarts (map (λ b. b.items) blocks.now) starts.old.items }
     requires count { count ≡ length (joined (map (λ b. b.items) blocks.now)) }
     ensures starts { AreStarts (map (λ b. b.items) blocks.now) starts.new.items }
