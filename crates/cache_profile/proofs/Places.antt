@@ -1,15 +1,14 @@
 -- Routines in blocks.
-use Rattle.std.proofs.Common.{◌≡◌, ℕ, ◌+◌, ◌<◌, List, [], length, get_or, set, map, refl, sym, ap, ◌∙◌, subst, arith}
-use Rattle.std.specs.List.{All}
+use Rattle.std.proofs.Common.{◌≡◌, ℕ, ◌<◌, List, [], ◌++◌, length, get_or, set, map, refl, sym, ap, ◌∙◌, subst, arith}
 use Rattle.std.proofs.lemmas.List.{get_or_default, length-map, set-get_or}
 use Rattle.cost_points.specs.Joined.{joined}
 use Rattle.cost_points.specs.Keys.{IsRising}
-use Rattle.cost_points.specs.Places.{IsItemAt, IsPlaceOf, before}
-use Rattle.cost_points.proofs.InBlocks.{place_at, put_changed}
-use Rattle.cost_points.proofs.Indexed.{item_at}
+use Rattle.cost_points.specs.Places.{IsItemAt, IsPlaceOf}
+use Rattle.cost_points.proofs.InBlocks.{item_changed, place_at, put_changed}
 use Rattle.cache_profile.specs.declared.routines.RoutineMisses.{RoutineMisses}
-use Rattle.cache_profile.specs.Private.Added.{with_routine}
-use Rattle.cache_profile.proofs.Groups.{counts, entries_with}
+use Rattle.cache_profile.specs.ByRoutine.{LineAccess, by_routine}
+use Rattle.cache_profile.specs.Private.Added.{AreOf, plus, with_routine}
+use Rattle.cache_profile.proofs.Groups.{added_first, counts, entries_rise, entries_with}
 
 -- a routine that is there
 pub there_already : (bs : List (List RoutineMisses)) (x b at : ℕ) → IsRising (map (λ r. r.entry) (joined bs)) → IsPlaceOf (λ r. r.entry) bs x b at → joined bs ≡ with_routine x (joined bs)
@@ -29,8 +28,12 @@ made_place bs rs x b at up made stands =
     (subst (λ (ys : List RoutineMisses). IsRising (map (λ r. r.entry) ys)) (sym made) (entries_with x (joined rs) up))
     stands.block stands.inside (ap (λ (r : RoutineMisses). r.entry) (stands.here (counts 0 0 0)))
 
--- what holds of all holds of the one at a place
-pub has_at : (P : RoutineMisses → Type 0) (bs : List (List RoutineMisses)) (b at : ℕ) (r : RoutineMisses) → b < length bs → at < length (get_or bs b []) → r ≡ get_or (get_or bs b []) at r → All P (joined bs) → P r
-has_at P bs b at r block inside read all =
-    let found = item_at bs (length (before b bs) + at) b at r (record { block = block; inside = inside; index = refl }) read in
-    subst P (sym found.1) (all (length (before b bs) + at) r found.0)
+-- accesses are added to the routine at a place
+pub added_at : {V : Type 0} (f : V → List RoutineMisses) (all more : List LineAccess) (x accesses misses : ℕ) (was : List RoutineMisses) (vs : List V) (b at : ℕ) (w v : V) (old new : RoutineMisses) →
+    was ≡ by_routine all → joined (map f vs) ≡ with_routine x was → IsPlaceOf (λ r. r.entry) (map f vs) x b at → w ≡ get_or vs b w → old ≡ get_or (f w) at old → f v ≡ set (f w) at new →
+    new ≡ plus accesses misses old → AreOf x accesses misses more → joined (map f (set vs b v)) ≡ by_routine (all ++ more)
+added_at f all more x accesses misses was vs b at w v old new was_is found place read is made new_is are =
+    let up : IsRising (map (λ r. r.entry) (joined (map f vs))) =
+    subst (λ (rs : List RoutineMisses). IsRising (map (λ r. r.entry) rs)) (sym (found ∙ ap (with_routine x) was_is)) (entries_with x (by_routine all) (entries_rise all)) in
+    added_first all more x accesses misses was (joined (map f vs)) (joined (map f (set vs b v))) was_is found
+    (item_changed f (λ (r : RoutineMisses). r.entry) x (plus accesses misses) (counts x accesses misses) vs b at w v old up place read is (made ∙ ap (set (f w) at) new_is)) are

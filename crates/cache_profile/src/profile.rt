@@ -34,8 +34,9 @@ impl Shaped for Brand {
 }
 
 /// The line accesses and the misses of the events so far, by routine, for a cache of the shape that `K` carries. It takes all
-/// pasts. An access costs as much as the cache has ways, if its routine is that of the last one; else its routine is looked up,
-/// which is logarithmic in their number. A routine's first access moves the rest of a block of routines, at most 128.
+/// pasts. An access of the routine of the last one costs as much as the cache has ways. For another routine, a look-up is added
+/// that is logarithmic in their number. A routine's first access also moves the rest of a block of at most 128 routines, and at
+/// most one in 64 of these cuts a block in two, which moves the list of blocks.
 #[derive(Drop)]
 pub struct CacheProfile<K: Shaped> {
     cache: Cache,
@@ -156,8 +157,10 @@ impl<K: Shaped> CacheProfile<K> {
     {
         let entry = running(&self.calls, tid);
         let place = self.routines.find(entry)?;
+        let block = &mut self.routines.blocks[place.block];
+        let routine = &mut block[place.at];
         let event = access_words(&mut self.cache, first, count);
-        self.routines.add(place, event.accesses, event.misses);
+        routine.add(event.accesses, event.misses);
         self.progress.pass(e);
         Ok(())
     }

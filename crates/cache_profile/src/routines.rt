@@ -1,9 +1,8 @@
 //! Line accesses by routine.
-ghost use Rattle.std.specs.Prelude.{◌≡◌, ◌<◌, ◌^◌, ◌+◌, [], ℕ, get_or, length, map, slice_get, IfOk, OnErr, OnOk, Some};
-ghost use Rattle.std.specs.List.{All};
+ghost use Rattle.std.specs.Prelude.{◌≡◌, ◌<◌, ◌^◌, [], length, map, slice_get, IfOk, OnErr, OnOk, Some};
 ghost use Rattle.cost_points.specs.Keys.{IsRising};
 ghost use Rattle.cost_points.specs.Places.{IsGapOf, IsPlaceOf};
-ghost use Rattle.cache_profile.specs.Private.Added.{HasRoom, with_accesses, with_routine};
+ghost use Rattle.cache_profile.specs.Private.Added.{HasRoom, plus, with_routine};
 ghost use Rattle.cache_profile.specs.Private.Kept.{IsKept, in_blocks, listed};
 
 use cost_points::blocks::{self, Keyed, Place};
@@ -29,20 +28,14 @@ impl Keyed for RoutineMisses {
 }
 
 impl RoutineMisses {
-    // With that many more accesses and misses.
-    fn with(self, accesses: u32, misses: u32) -> RoutineMisses
-        requires { HasRoom self }
-        ensures { result ≡ record {
-          entry = self.entry;
-          accesses = self.accesses + accesses;
-          misses = self.misses + misses;
-        } }
+    /// Adds that many accesses and misses.
+    #[inline(always)]
+    pub(crate) fn add(&mut self, accesses: u32, misses: u32)
+        requires { HasRoom self.old }
+        ensures { self.new ≡ plus accesses misses self.old }
     {
-        RoutineMisses {
-            entry: self.entry,
-            accesses: self.accesses + u128::from(accesses),
-            misses: self.misses + u128::from(misses),
-        }
+        self.accesses += u128::from(accesses);
+        self.misses += u128::from(misses);
     }
 }
 
@@ -115,22 +108,6 @@ impl Routines {
         self.last = blocks::insert(&mut self.blocks, place, routine)?;
         self.count += 1;
         Ok(self.last)
-    }
-
-    /// More accesses and misses of the routine at a place.
-    #[inline(always)]
-    pub fn add(&mut self, place: Place, accesses: u32, misses: u32)
-        requires kept { IsKept self.old }
-        requires rising { IsRising (map (λ r. r.entry) (listed self.old)) }
-        requires room { All HasRoom (listed self.old) }
-        requires block { place.block < length self.old.blocks.items }
-        requires at { place.at < length (get_or (in_blocks self.old) place.block []) }
-        ensures added { (entry : ℕ) → IsPlaceOf (λ r. r.entry) (in_blocks self.old) entry place.block place.at
-            → listed self.new ≡ with_accesses entry accesses misses (listed self.old) }
-        ensures kept { IsKept self.new }
-    {
-        let block = &mut self.blocks[place.block];
-        block[place.at] = block[place.at].with(accesses, misses);
     }
 
     /// Makes looking up routines by their index quick, until a new one comes. A refusal changes no routine.
