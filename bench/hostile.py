@@ -1,8 +1,11 @@
 #!/usr/bin/env python3
-"""bench/hostile.py PROGRAM: executables that are made to cost much, each with the time and the most memory that it took:
-65534 load headers; 400000 symbols of as many values, whose names are long and overlap in a string table of 1 MiB; a routine of
-100000 sizes that fall one by one; and 100000 routines that are called from the highest address down. Of the last two, the host's
-instructions for one of the guest's are counted too, on shorter runs."""
+"""bench/hostile.py PROGRAM: executables that are made to cost much, each with the time that it took, of the clock and of the
+processor, and the most memory: 65534 load headers; 400000 symbols of as many values, whose names are long and overlap in a
+string table of 1 MiB; a routine of 100000 sizes that fall one by one; and 100000 routines that are called from the highest
+address down, by `run`, and by `cache` where each writes a word. Of the last three, the host's instructions for one of the
+guest's are counted too, on shorter runs."""
+from __future__ import annotations
+
 import os
 import pathlib
 import struct
@@ -10,21 +13,23 @@ import subprocess
 import sys
 import tempfile
 import time
+from collections.abc import Callable
 
 import run
-from guests import BASE, EXIT, HEADERS, RETURN, addi, branch, image, jal, jalr, lw, number, sw
+from guests import BASE, BNE, EXIT, HEADERS, RETURN, addi, branch, image, jal, jalr, lw, number, sw
 
 TOP = pathlib.Path(__file__).resolve().parent.parent
+RUN = ["run"]
 
 
-def headers():
+def headers() -> bytes:
     """The file of the worked row."""
     with tempfile.TemporaryDirectory() as folder:
         subprocess.run([sys.executable, TOP / "rows/headers-65534/setup.py"], cwd=folder, check=True)
         return (pathlib.Path(folder) / "img").read_bytes()
 
 
-def symbols(count):
+def symbols(count: int) -> bytes:
     """The smallest guest with a symbol table and its strings behind it."""
     file = bytearray((TOP / "crates/aprof/data/img").read_bytes())
     file += bytes(-len(file) % 4)
@@ -46,7 +51,7 @@ def symbols(count):
     return bytes(file)
 
 
-def falling(levels):
+def falling(levels: int) -> bytes:
     """A routine that writes a word and calls itself; the innermost one reads the words of all. So the sizes fall by one from
     each that ends to the next."""
     leaf = [addi(5, 2, 0), lw(6, 4, 5), addi(5, 5, 16), branch(1, 5, 9, -8), jal(0, -28)]
@@ -56,44 +61,58 @@ def falling(levels):
     return image(begin + down + back + leaf)
 
 
-def routines(count):
-    """Routines of one instruction, called from the highest address down, so that each comes before all that were called."""
-    loop = [jalr(1, 8), addi(8, 8, -4), branch(1, 8, 9, -8)]
-    size = 4 + len(loop) + len(EXIT)
-    first = BASE + HEADERS + 4 * size
-    return image(number(8, first + 4 * (count - 1)) + number(9, first - 4) + loop + EXIT + [RETURN] * count)
+def routines(count: int, body: list[int]) -> bytes:
+    """Routines of this body, called from the highest address down, so that each comes before all that were called."""
+    size = 4 * len(body)
+    loop = [jalr(1, 8), addi(8, 8, -size), branch(BNE, 8, 9, -8)]
+    first = BASE + HEADERS + 4 * (4 + len(loop) + len(EXIT))
+    return image(number(8, first + size * (count - 1)) + number(9, first - size) + loop + EXIT + body * count)
 
 
-def count_host(name, guest):
+def returning(count: int) -> bytes:
+    """Routines that only return."""
+    return routines(count, [RETURN])
+
+
+def writing(count: int) -> bytes:
+    """Routines that write a word of the stack, so that each accesses a cache line."""
+    return routines(count, [sw(0, -4, 2), RETURN])
+
+
+def count_host(name: str, guest: Callable[[int], bytes], command: list[str]) -> None:
     """Host instructions for one of the guest's, as the guest grows."""
+    run.COMMAND = command
     for size in (2500, 5000):
         with tempfile.TemporaryDirectory() as folder:
             (few, less), (many, more) = (run.host(guest(count), folder, []) for count in (size, 2 * size))
         print(f"from {size} to {2 * size} {name}: {(more - less) / (many - few):.0f} host instructions a step")
 
 
-def measure(program, name, image):
+def measure(program: str, name: str, image: bytes, command: list[str]) -> None:
     with tempfile.TemporaryDirectory() as folder:
         path = os.path.join(folder, "img")
         pathlib.Path(path).write_bytes(image)
         begin = time.monotonic()
-        child = subprocess.Popen([program, "run", "-o", os.path.join(folder, "r"), path], stderr=subprocess.DEVNULL)
+        child = subprocess.Popen([program, *command, "-o", os.path.join(folder, "r"), path], stderr=subprocess.DEVNULL)
         _, status, usage = os.wait4(child.pid, 0)
         seconds = time.monotonic() - begin
         report = pathlib.Path(folder, "r")
         routine = [line for line in report.read_text().splitlines() if line.startswith("routine")][:1] if report.exists() else []
-        print(f"{name}: {len(image)} bytes, status {os.waitstatus_to_exitcode(status)}, {seconds:.2f} s, {usage.ru_maxrss / 1024:.0f} MiB, {str(routine)[:60]}")
+        took = f"{seconds:.2f} s ({usage.ru_utime + usage.ru_stime:.2f} s of the processor), {usage.ru_maxrss / 1024:.0f} MiB"
+        print(f"{name}: {len(image)} bytes, status {os.waitstatus_to_exitcode(status)}, {took}, {str(routine)[:60]}")
 
 
-def main():
+def main() -> None:
     program = os.path.abspath(sys.argv[1])
-    measure(program, "65534 headers", headers())
-    measure(program, "400000 symbols", symbols(400_000))
-    measure(program, "100000 falling sizes", falling(100_000))
-    measure(program, "100000 falling routines", routines(100_000))
+    measure(program, "65534 headers", headers(), RUN)
+    measure(program, "400000 symbols", symbols(400_000), RUN)
+    measure(program, "100000 falling sizes", falling(100_000), RUN)
+    measure(program, "100000 falling routines", returning(100_000), RUN)
+    measure(program, "100000 falling routines, cache", writing(100_000), run.CACHE)
     run.PROGRAM = program
-    count_host("falling sizes", falling)
-    count_host("falling routines", routines)
+    count_host("falling sizes", falling, RUN)
+    count_host("falling routines", returning, RUN)
+    count_host("falling routines, cache", writing, run.CACHE)
 
 
 main()

@@ -49,12 +49,13 @@ fn named_misses<K: Shaped>(
 fn report_of<K: Shaped>(
     alloc: Global,
     image: &Image,
-    profile: &CacheProfile<K>,
+    profile: &mut CacheProfile<K>,
     finish: Finish,
 ) -> Result<CacheReport, AllocError>
-    ensures { IfOk result (λ report. (past : List Event) → MissesStandFor K.shape profile.now past
+    ensures { IfOk result (λ report. (past : List Event) → MissesStandFor K.shape profile.old past
         → report ≡ misses_of K.shape image.now finish past) }
 {
+    profile.index_routines()?;
     let routines = named_misses(alloc, image, profile)?;
     Ok(CacheReport {
         finish,
@@ -81,7 +82,7 @@ fn misses_by<K: Shaped, O: Sink, E: Sink>(
 {
     let mut profile = CacheProfile::<K>::new(alloc, shape)?;
     let ended = run_image(alloc, options, image, files, &mut profile, out, err)?;
-    let report = report_of(alloc, image, &profile, ended.finish)?;
+    let report = report_of(alloc, image, &mut profile, ended.finish)?;
     Ok(report)
 }
 

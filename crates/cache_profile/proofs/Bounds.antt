@@ -2,6 +2,7 @@
 use Rattle.std.proofs.Common.{◌≡◌, ℕ, suc, ◌+◌, ◌*◌, ◌^◌, ◌<◌, ◌≤◌, Bool, nat_eq, inl, inr, List, [], ◌∷◌, length, map, refl, ap, ◌∙◌, arith, length-append}
 use Rattle.std.specs.List.{All, range_with_len}
 use Rattle.std.proofs.lemmas.List.{length-map}
+use Rattle.std.proofs.lemmas.List.Elements.{All-map}
 use Rattle.std.proofs.lemmas.List.FromFn.{length-range_with_len}
 use Rattle.std.proofs.lemmas.List.Sums.{count_by-le-length, length-filter}
 use Rattle.trace_model.specs.declared.event_kinds.Event.{Event}
@@ -15,6 +16,7 @@ use Rattle.cost_points.proofs.Bounds.{All-grouped}
 use Rattle.cost_points.proofs.Grouped.{having}
 use Rattle.cost_points.proofs.Rising.{insert_above, insert_below, insert_same, order}
 use Rattle.cache_lines.specs.Shapes.{Dimensions}
+use Rattle.cache_profile.proofs.Groups.{more-le, none_by_routine}
 use Rattle.cache_profile.specs.Private.Added.{HasRoom}
 use Rattle.cache_profile.specs.ByRoutine.{LineAccess, accesses_of, all_accesses, by_routine, counts_of, routine_at}
 use Rattle.cache_profile.specs.LineAccesses.{line_accesses, line_of, lines_accessed, lines_over, missed}
@@ -96,3 +98,17 @@ steps-le (_ ∷ past) = omega (arith, steps-le past)
 
 pub few_steps : (past : List Event) (w count : ℕ) → w ≡ weight past → w + count < TRACE_WEIGHT → steps past + count < 2 ^ 64
 few_steps past w count is light = omega (arith, steps-le past, is, light)
+
+-- ---- routines
+-- an event is of one routine, and weighs at least one
+routines-le : (shape : Dimensions) (past : List Event) → length (by_routine (all_accesses shape past)) ≤ weight past
+routines-le shape [] = omega (arith, ap length none_by_routine)
+routines-le shape (e ∷ past) =
+    let entry = routine_at past (thread_of e) in
+    let ms = missed shape (line_accesses shape past) (lines_accessed shape e) in
+    let same : All (λ a. a.entry ≡ entry) (accesses_of shape e past) =
+    All-map (λ (a : LineAccess). a.entry ≡ entry) (λ m. record { entry = entry; missed = m }) ms (λ k d inside. refl) in
+    omega (arith, routines-le shape past, more-le (all_accesses shape past) (accesses_of shape e past) entry same, some_weight e)
+
+pub few_routines : (shape : Dimensions) (past : List Event) (count : ℕ) → IsWellFormed past → count ≡ length (by_routine (all_accesses shape past)) → count < 2 ^ 63
+few_routines shape past count formed is = omega (arith, routines-le shape past, is_light past formed, is)

@@ -22,7 +22,6 @@ use Rattle.trace_model.specs.Activations.{open_calls}
 use Rattle.call_tracker.specs.declared.open_calls.OpenCall.{OpenCall}
 use Rattle.call_tracker.specs.CallStacks.{Stacks, call_of}
 use Rattle.call_tracker.specs.CallStacks as calls
-use Rattle.cost_points.specs.Keys.{grouped}
 use Rattle.cache_lines.specs.Held.{Held}
 use Rattle.cache_lines.specs.Kept as lines
 use Rattle.cache_lines.specs.Shapes.{Dimensions}
@@ -227,8 +226,3 @@ entry_seen (Some a) = refl
 pub innermost_is : (past : List Event) (t : ℕ) (top : Option OpenCall) → top ≡ option_map call_of (slice_get (open_calls past t) 0) →
     option_map_or (λ (c : OpenCall). c.entry) top 0 ≡ innermost past t
 innermost_is past t top is = ap (λ (o : Option OpenCall). option_map_or (λ (c : OpenCall). c.entry) o 0) is ∙ entry_seen (slice_get (open_calls past t) 0)
-
--- ---- no event
-pub none_by_routine : [] ≡ by_routine []
-unfolding grouped
-none_by_routine = refl

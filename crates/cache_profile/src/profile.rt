@@ -13,7 +13,7 @@ ghost use Rattle.cache_profile.specs.Profile.{IsOther, MayCome, MissesStandFor, 
 
 use crate::RoutineMisses;
 use crate::lines::access_words;
-use crate::routines::add;
+use crate::routines::Routines;
 use cache_lines::{Cache, Shape};
 use call_tracker::CallStacks;
 use guest_words::{Addr, Tid, Word};
@@ -34,20 +34,23 @@ impl Shaped for Brand {
 }
 
 /// The line accesses and the misses of the events so far, by routine, for a cache of the shape that `K` carries. It takes all
-/// pasts. An access costs as much as the cache has ways; a routine that comes first moves those with entries above its own.
+/// pasts. An access of the routine of the last one costs as much as the cache has ways. For another routine, a look-up is added
+/// that is logarithmic in their number. A routine's first access also moves the rest of a block of at most 128 routines, and at
+/// most one in 64 of these cuts a block in two, which moves the list of blocks.
 #[derive(Drop)]
 pub struct CacheProfile<K: Shaped> {
     cache: Cache,
     calls: CallStacks,
-    routines: Vec<RoutineMisses>,
-    // Where the routine of the last access stands.
-    last: usize,
+    routines: Routines,
     steps: u64,
     progress: Progress,
     of: PhantomData<K>,
 }
 
 impl<K: Shaped> Model for CacheProfile<K> {
+    ghost use Rattle.std.specs.Prelude.{map};
+    ghost use Rattle.cost_points.specs.Indexes.{AreIndexed};
+    ghost use Rattle.cost_points.specs.Joined.{joined};
     ghost use Rattle.cache_profile.specs.Profile.{IsOfSome, KeptMisses};
 
     ghost Value = { KeptMisses };
@@ -55,7 +58,7 @@ impl<K: Shaped> Model for CacheProfile<K> {
     ghost view = { λ p. record {
       cache = p.cache;
       calls = p.calls;
-      routines = p.routines.items;
+      routines = joined (map (λ b. b.items) p.routines.blocks.items);
       steps = p.steps;
       progress = p.progress;
     } };
@@ -63,10 +66,10 @@ impl<K: Shaped> Model for CacheProfile<K> {
     ghost invariant = { λ p. ∥ IsOfSome K.shape (record {
       cache = p.cache;
       calls = p.calls;
-      routines = p.routines.items;
+      routines = joined (map (λ b. b.items) p.routines.blocks.items);
       steps = p.steps;
       progress = p.progress;
-    }) ∥₁ };
+    }) ∥₁ × AreIndexed (map (λ b. b.items) p.routines.blocks.items) p.routines.count p.routines.starts.items };
 }
 
 // The entry of the routine that runs in the thread: that of its innermost open call.
@@ -88,8 +91,7 @@ impl<K: Shaped> CacheProfile<K> {
         Ok(CacheProfile {
             cache: Cache::new(alloc, shape)?,
             calls: CallStacks::new(alloc),
-            routines: Vec::new(alloc),
-            last: 0,
+            routines: Routines::new(alloc)?,
             steps: 0,
             progress: Progress::new(),
             of: PhantomData,
@@ -100,7 +102,15 @@ impl<K: Shaped> CacheProfile<K> {
     pub fn routines(&self) -> usize
         ensures { result ≡ length self.now.routines }
     {
-        self.routines.len()
+        self.routines.count
+    }
+
+    /// Makes `routine` quick: logarithmic in the number of routines, until a new one comes. Without it, `routine` goes past the
+    /// blocks of routines one by one.
+    pub fn index_routines(&mut self) -> Result<(), AllocError>
+        ensures { self.new ≡ self.old }
+    {
+        self.routines.index()
     }
 
     /// The line accesses of a routine, the routines by rising entry.
@@ -108,7 +118,7 @@ impl<K: Shaped> CacheProfile<K> {
         requires { i < length self.now.routines }
         ensures { slice_get self.now.routines i ≡ Some result }
     {
-        self.routines[i]
+        self.routines.routine(i)
     }
 
     /// The steps of all threads.
@@ -145,16 +155,12 @@ impl<K: Shaped> CacheProfile<K> {
             → OnOk result (MissesStandFor K.shape self.new (e.now ∷ past)) }
         ensures refused { OnErr result (self.new ≡ self.old) }
     {
-        self.routines.reserve(1)?;
         let entry = running(&self.calls, tid);
+        let place = self.routines.find(entry)?;
+        let block = &mut self.routines.blocks[place.block];
+        let routine = &mut block[place.at];
         let event = access_words(&mut self.cache, first, count);
-        self.last = add(
-            &mut self.routines,
-            self.last,
-            entry,
-            event.accesses,
-            event.misses,
-        );
+        routine.add(event.accesses, event.misses);
         self.progress.pass(e);
         Ok(())
     }

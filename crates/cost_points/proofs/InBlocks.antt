@@ -2,11 +2,11 @@
 use Rattle.std.proofs.Common.{◌≡◌, ◌≢◌, ℕ, zero, suc, ◌+◌, ◌-◌, ◌<◌, ◌≤◌, List, [], ◌∷◌, ◌++◌, drop, get_or, inl, inr, length, map, refl, set, sym, take, ap, ◌∙◌, subst, arith, append_assoc, length-append}
 use Rattle.std.specs.List.{All, insert}
 use Rattle.std.proofs.lemmas.Bool.{cases_lt}
-use Rattle.std.proofs.lemmas.List.{append-nil, drop_all, get_or_append_left, get_or-append-add, get_or_read, get_or-map, length-drop, length-map, length-set, length-take-le, map-append, map-set, set-get_or, take-append-drop, take_more}
-use Rattle.std.proofs.lemmas.List.Edits.{insert-append_left, insert-append_right}
+use Rattle.std.proofs.lemmas.List.{append-nil, drop_all, get_or_append_left, get_or-append-add, get_or_read, get_or-map, get_or-set_same, length-drop, length-map, length-set, length-take-le, map-append, map-set, set-get_or, take-append-drop, take_more}
+use Rattle.std.proofs.lemmas.List.Edits.{get_or-insert_at, insert-append_left, insert-append_right, length-insert}
 use Rattle.std.proofs.lemmas.List.Elements.{All-append, All-cons, All-map, All-nil, All-set, All-head, All-tail, All-weaker}
 use Rattle.cost_points.specs.Joined.{IsFilled, joined}
-use Rattle.cost_points.specs.Private.Places.{IsBetween, IsBlockOf, IsGapOf, IsPlaceOf, before, behind, cut, with_item}
+use Rattle.cost_points.specs.Places.{IsBetween, IsBlockOf, IsGapOf, IsItemAt, IsPlaceOf, before, behind, cut, with_item}
 use Rattle.cost_points.specs.Keys.{IsRising, put}
 use Rattle.cost_points.specs.Search.{IsAt}
 use Rattle.cost_points.proofs.Put.{put_above, put_at, put_below, put_in, put_same}
@@ -160,6 +160,18 @@ item_added f vs b at w v a inside read more =
     let within : b < length (map f vs) = omega (arith, inside, length-map vs f) in
     ap joined (map-set f vs b v) ∙ joined_set (map f vs) b (f v) within
     ∙ ap (λ ys. before b (map f vs) ++ (ys ++ behind b (map f vs))) (more ∙ ap (λ ys. insert ys at a) (read_block f vs b w inside read))
+
+-- it stands at its place
+pub item_stands : {V A : Type 0} (f : V → List A) (vs : List V) (b at : ℕ) (w v : V) (a : A) → b < length vs → w ≡ get_or vs b w → at ≤ length (get_or (map f vs) b []) → f v ≡ insert (f w) at a → IsItemAt (map f (set vs b v)) b at a
+item_stands f vs b at w v a inside read within made =
+    let long : at ≤ length (f w) = subst (λ ys. at ≤ length ys) (sym (read_block f vs b w inside read)) within in
+    let own : get_or (map f (set vs b v)) b [] ≡ insert (f w) at a =
+    ap (λ bs. get_or bs b []) (map-set f vs b v) ∙ get_or-set_same (map f vs) b (f v) [] (omega (arith, inside, length-map vs f)) ∙ made in
+    record {
+      block = omega (arith, inside, length-map (set vs b v) f, length-set vs b v);
+      inside = omega (arith, ap length own, length-insert (f w) at a long, long);
+      here = λ d. ap (λ ys. get_or ys at d) own ∙ get_or-insert_at (f w) at a d long;
+    }
 
 -- ---- keys that rise over all blocks
 rising_right : (xs ys : List ℕ) → IsRising (xs ++ ys) → IsRising ys

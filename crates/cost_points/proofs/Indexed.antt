@@ -6,8 +6,8 @@ use Rattle.std.proofs.lemmas.Bool.{cases_lt}
 use Rattle.std.proofs.lemmas.List.{get_or_append_left, get_or-append-add, get_or-map, get_or-take, length-map, length-set, length-take, map-set, set-get_or}
 use Rattle.std.proofs.lemmas.List.Edits.{length-insert}
 use Rattle.cost_points.specs.Joined.{IsFilled, joined}
-use Rattle.cost_points.specs.Private.Indexes.{AreIndexed, AreStarts, IsIndexOf}
-use Rattle.cost_points.specs.Private.Places.{IsGapOf, IsPlaceOf, before, behind, cut, with_item}
+use Rattle.cost_points.specs.Indexes.{AreIndexed, AreStarts, IsIndexOf}
+use Rattle.cost_points.specs.Places.{IsGapOf, IsPlaceOf, before, behind, cut, with_item}
 use Rattle.cost_points.specs.Keys.{IsRising}
 use Rattle.cost_points.specs.Search.{IsAt}
 use Rattle.cost_points.proofs.InBlocks.{filled_changed, joined_at, read_block, set_same}

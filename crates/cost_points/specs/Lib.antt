@@ -4,6 +4,8 @@ pub mod Points
 pub mod Merging
 pub mod Search
 pub mod Joined
+pub mod Places
+pub mod Indexes
 pub mod Contents
 pub mod Valid
 pub mod Private

@@ -1,7 +1,7 @@
 //! Items by rising key, in blocks: one more moves the rest of a block, and no other item.
 ghost use Rattle.std.specs.Prelude.{◌≡◌, ◌<◌, ◌≤◌, [], ℕ, get_or, length, map, IfOk, MatchResult, OnErr, OnOk};
 ghost use Rattle.cost_points.specs.Joined.{IsFilled, joined};
-ghost use Rattle.cost_points.specs.Private.Places.{IsBetween, IsBlockOf, IsGapOf, IsPlaceOf, before, cut, with_item};
+ghost use Rattle.cost_points.specs.Places.{IsBetween, IsBlockOf, IsGapOf, IsItemAt, IsPlaceOf, before, cut, with_item};
 ghost use Rattle.cost_points.specs.Keys.{IsRising};
 ghost use Rattle.cost_points.specs.Search.{FindsKey};
 
@@ -15,24 +15,24 @@ const MOST: usize = 128;
 const HALF: usize = 64;
 
 /// What stands in blocks, by its key.
-pub(crate) trait Keyed {
+pub trait Keyed {
     ghost key_of: { Self → ℕ };
 
-    // The key.
+    /// The key.
     fn key(&self) -> u64
         ensures { result ≡ key_of self.now };
 }
 
 /// A place of an item: its block, and the place in that.
 #[derive(Clone, Copy, Debug, PartialEq, Eq)]
-pub(crate) struct Place {
+pub struct Place {
     pub block: usize,
     pub at: usize,
 }
 
 impl Place {
     /// The first one.
-    pub(crate) const FIRST: Place = Place { block: 0, at: 0 };
+    pub const FIRST: Place = Place { block: 0, at: 0 };
 }
 
 // The block that the key belongs into.
@@ -80,7 +80,7 @@ pub(crate) fn search<T: Keyed>(blocks: &[Vec<T>], key: u64) -> Result<Place, Pla
 
 /// The same, with a look at the place where a key was found last. It becomes the place where this one is found.
 #[inline(always)]
-pub(crate) fn find<T: Keyed>(blocks: &[Vec<T>], last: &mut Place, key: u64) -> Result<Place, Place>
+pub fn find<T: Keyed>(blocks: &[Vec<T>], last: &mut Place, key: u64) -> Result<Place, Place>
     requires filled { IsFilled (map (λ b. b.items) blocks.now) }
     requires rising { IsRising (map T.key_of (joined (map (λ b. b.items) blocks.now))) }
     ensures { MatchResult result
@@ -145,12 +145,8 @@ fn shorten<T: Drop>(blocks: &mut Vec<Vec<T>>, place: Place) -> Result<Place, All
     })
 }
 
-/// One item more, at a place. A refusal changes no item.
-pub(crate) fn insert<T: Drop>(
-    blocks: &mut Vec<Vec<T>>,
-    place: Place,
-    item: T,
-) -> Result<Place, AllocError>
+/// One item more, at a place, and where it stands then. A refusal changes no item.
+pub fn insert<T: Drop>(blocks: &mut Vec<Vec<T>>, place: Place, item: T) -> Result<Place, AllocError>
     requires inside { place.block < length blocks.old.items }
     requires at { place.at ≤ length (get_or (map (λ v. v.items) blocks.old.items) place.block []) }
     requires filled { IsFilled (map (λ v. v.items) blocks.old.items) }
@@ -158,6 +154,7 @@ pub(crate) fn insert<T: Drop>(
         ≡ with_item (map (λ v. v.items) blocks.old.items) place.block place.at item) }
     ensures err { OnErr result (joined (map (λ v. v.items) blocks.new.items)
         ≡ joined (map (λ v. v.items) blocks.old.items)) }
+    ensures placed { IfOk result (λ p. IsItemAt (map (λ v. v.items) blocks.new.items) p.block p.at item) }
     ensures filled { IsFilled (map (λ v. v.items) blocks.new.items) }
     ensures before { (b : ℕ) → b ≤ place.block → before b (map (λ v. v.items) blocks.new.items)
         ≡ before b (map (λ v. v.items) blocks.old.items) }

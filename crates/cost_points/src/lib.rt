@@ -4,8 +4,8 @@
 //! added to it.
 #![tactic(auto)]
 
-mod blocks;
-mod indexes;
+pub mod blocks;
+pub mod indexes;
 mod point;
 mod routine;
 mod routines;

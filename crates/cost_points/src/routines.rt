@@ -4,7 +4,7 @@ ghost use Rattle.std.specs.List.{All};
 ghost use Rattle.cost_points.specs.Merging.{with_point};
 ghost use Rattle.cost_points.specs.Points.{Routine, point_of};
 ghost use Rattle.cost_points.specs.Private.Kept.{IsKept, in_blocks, listed};
-ghost use Rattle.cost_points.specs.Private.Places.{IsGapOf, with_item};
+ghost use Rattle.cost_points.specs.Places.{IsGapOf, with_item};
 ghost use Rattle.cost_points.specs.Search.{HasRoom, IsAt};
 ghost use Rattle.cost_points.specs.Valid.{IsProfile};
 

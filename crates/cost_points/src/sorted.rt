@@ -3,7 +3,7 @@ ghost use Rattle.std.specs.Prelude.{◌≡◌, ◌<◌, [], ◌∷◌, ℕ, map,
 ghost use Rattle.std.specs.List.{All};
 ghost use Rattle.std.specs.Vec.{vec_capacity};
 ghost use Rattle.cost_points.specs.Joined.{IsFilled, joined};
-ghost use Rattle.cost_points.specs.Private.Places.{IsGapOf};
+ghost use Rattle.cost_points.specs.Places.{IsGapOf};
 ghost use Rattle.cost_points.specs.Keys.{IsRising, put};
 ghost use Rattle.cost_points.specs.Merging.{merged};
 ghost use Rattle.cost_points.specs.Points.{point_of};

@@ -30,7 +30,7 @@ impl Model for Table {
     ghost use Rattle.std.specs.Prelude.{map};
     ghost use Rattle.cost_points.specs.Joined.{joined};
     ghost use Rattle.cost_points.specs.Contents.{TableContents, IsContents};
-    ghost use Rattle.cost_points.specs.Private.Indexes.{AreIndexed};
+    ghost use Rattle.cost_points.specs.Indexes.{AreIndexed};
 
     ghost Value = { TableContents };
 

@@ -3,7 +3,7 @@ use Rattle.std.specs.Prelude.{List, map}
 use Rattle.cost_points.specs.declared.routines.Routines.{Routines}
 use Rattle.cost_points.specs.Joined.{joined}
 use Rattle.cost_points.specs.Points.{Routine}
-use Rattle.cost_points.specs.Private.Indexes.{AreIndexed}
+use Rattle.cost_points.specs.Indexes.{AreIndexed}
 
 -- the blocks that they stand in
 abbrev pub in_blocks : Routines → List (List Routine)

@@ -2,8 +2,8 @@ use Rattle.std.proofs.Common.{ℕ, List, ◌≡◌, ◌≤◌, ap, arith, length
 use Rattle.std.proofs.lemmas.List.{map-set}
 use Rattle.std.proofs.lemmas.List.Edits.{length-insert}
 use Rattle.cost_points.specs.Joined.{IsFilled, joined}
-use Rattle.cost_points.proofs.InBlocks.{filled_set, item_added, read_block, set_same}
-use Rattle.cost_points.specs.Private.Places.{before}
+use Rattle.cost_points.proofs.InBlocks.{filled_set, item_added, item_stands, read_block, set_same}
+use Rattle.cost_points.specs.Places.{before}
 use Rattle.cost_points.proofs.Indexed.{before_set}
 use Rattle.cost_points.proofs.blocks.insert.Goals as goal
 
@@ -24,6 +24,11 @@ pub returns-clause-ok : goal.returns-clause-ok
 returns-clause-ok g c =
     item_added (λ v. v.items) c.shorten.new.blocks.items c.in_ok-place.place.block c.in_ok-place.place.at c.index_mut-block.result.now c.insert.new.self c.args.item c.in_ok-place.ensures.block c.index_mut-block.ensures.value c.in_ok-insert.ensures.items
     ∙ c.in_ok-place.ensures.same c.args.item
+
+pub returns-clause-placed : goal.returns-clause-placed
+returns-clause-placed g c =
+    item_stands (λ v. v.items) c.shorten.new.blocks.items c.in_ok-place.place.block c.in_ok-place.place.at c.index_mut-block.result.now c.insert.new.self c.args.item c.in_ok-place.ensures.block c.index_mut-block.ensures.value c.in_ok-place.ensures.at
+    c.in_ok-insert.ensures.items
 
 pub returns-clause-filled : goal.returns-clause-filled
 returns-clause-filled g c =

@@ -1,7 +1,7 @@
 use Rattle.std.proofs.Common.{◌≡◌, ◌<◌, ◌+◌, [], ◌∷◌, ap, arith, get_or, length, map, rules, subst, sym, ◌∙◌}
 use Rattle.std.proofs.Common.{length-append}
 use Rattle.std.proofs.lemmas.List.{get_or_read, length-map}
-use Rattle.cost_points.specs.Private.Indexes.{AreStarts}
+use Rattle.cost_points.specs.Indexes.{AreStarts}
 use Rattle.cost_points.proofs.InBlocks.{read_block}
 use Rattle.cost_points.proofs.Indexed.{before_le, before_next, starts_more}
 use Rattle.cost_points.proofs.indexes.extend.Goals as goal

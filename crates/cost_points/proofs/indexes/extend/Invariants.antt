@@ -1,5 +1,5 @@
 use Rattle.std.proofs.Common.{◌≡◌, ◌+◌, length, map}
-use Rattle.cost_points.specs.Private.Indexes.{AreStarts}
+use Rattle.cost_points.specs.Indexes.{AreStarts}
 use Rattle.cost_points.proofs.indexes.extend.Given as goal
 
 abbrev pub invariant-loop-block : goal.invariant-loop-block

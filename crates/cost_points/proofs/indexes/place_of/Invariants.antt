@@ -1,5 +1,5 @@
 use Rattle.std.proofs.Common.{◌≡◌, ◌<◌, ◌+◌, ◌-◌, length, map}
-use Rattle.cost_points.specs.Private.Places.{before}
+use Rattle.cost_points.specs.Places.{before}
 use Rattle.cost_points.proofs.indexes.place_of.Given as goal
 
 abbrev pub invariant-walk : goal.invariant-walk

@@ -1,6 +1,6 @@
 use Rattle.std.proofs.Common.{[], ◌∷◌, Global, List, Vec, ap, map, refl, set, subst}
 use Rattle.cost_points.specs.declared.point.Point.{Point}
-use Rattle.cost_points.specs.Private.Places.{IsGapOf, IsPlaceOf}
+use Rattle.cost_points.specs.Places.{IsGapOf, IsPlaceOf}
 use Rattle.cost_points.specs.Merging.{merged}
 use Rattle.cost_points.specs.Points.{point_of}
 use Rattle.cost_points.specs.Search.{HasRoom}

@@ -5,7 +5,7 @@ use Rattle.std.proofs.lemmas.Result.{on_err_weaker}
 use Rattle.cost_points.specs.Joined.{joined}
 use Rattle.cost_points.specs.Merging.{point_added}
 use Rattle.cost_points.specs.Points.{Routine}
-use Rattle.cost_points.specs.Private.Places.{with_item}
+use Rattle.cost_points.specs.Places.{with_item}
 use Rattle.cost_points.specs.Search.{HasRoom, IsAt}
 use Rattle.cost_points.specs.Valid.{IsRoutine}
 use Rattle.cost_points.proofs.InBlocks.{item_changed, item_has, nowhere, put_new}

@@ -2,7 +2,7 @@ use Rattle.std.proofs.Common.{[], ◌∷◌, ap, map, ◌∙◌}
 use Rattle.cost_points.specs.declared.point.Point.{Point}
 use Rattle.cost_points.specs.Merging.{point_added}
 use Rattle.cost_points.specs.Points.{Routine, point_of}
-use Rattle.cost_points.specs.Private.Places.{with_item}
+use Rattle.cost_points.specs.Places.{with_item}
 use Rattle.cost_points.proofs.InBlocks.{put_new}
 use Rattle.cost_points.proofs.Merged.{new_routine, on_ok}
 use Rattle.cost_points.proofs.routines.Routines.add_routine.Goals as goal

@@ -1,7 +1,7 @@
 use Rattle.cost_points.specs.Points.{Routine}
 use Rattle.std.proofs.Common.{◌+◌, [], get_or, arith, map, subst, sym}
 use Rattle.std.proofs.lemmas.List.{length-map}
-use Rattle.cost_points.specs.Private.Indexes.{AreIndexed}
+use Rattle.cost_points.specs.Indexes.{AreIndexed}
 use Rattle.cost_points.proofs.Indexed.{indexed_more}
 use Rattle.cost_points.proofs.routines.Routines.insert.Goals as goal
 

@@ -1,6 +1,6 @@
 use Rattle.std.proofs.lemmas.List.{length-map}
 use Rattle.cost_points.specs.declared.routine.RoutinePoints.{RoutinePoints}
-use Rattle.cost_points.specs.Private.Indexes.{IsIndexOf}
+use Rattle.cost_points.specs.Indexes.{IsIndexOf}
 use Rattle.std.proofs.Common.{Global, Vec, arith, List, ap, get_or, map, refl, subst, sym, ◌∙◌}
 use Rattle.std.specs.Prelude.{Some}
 use Rattle.std.proofs.lemmas.Option.{slice_get_read}

@@ -1,7 +1,7 @@
 -- Items in blocks by their index among all.
 use Rattle.std.specs.Prelude.{◌≡◌, ℕ, ◌+◌, ◌<◌, ◌≤◌, List, [], get_or, length, slice_index}
 use Rattle.cost_points.specs.Joined.{IsFilled, joined}
-use Rattle.cost_points.specs.Private.Places.{before}
+use Rattle.cost_points.specs.Places.{before}
 
 -- The numbers are the indexes at which blocks begin: that of the first one, and of some that follow on it.
 pub record AreStarts {A : Type 0} (bs : List (List A)) (starts : List ℕ) : Type 0 where

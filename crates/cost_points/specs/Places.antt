@@ -1,5 +1,5 @@
 -- Places in blocks of items by rising key.
-use Rattle.std.specs.Prelude.{ℕ, suc, ◌<◌, ◌≤◌, List, [], ◌∷◌, ◌++◌, drop, get_or, length, map, take}
+use Rattle.std.specs.Prelude.{◌≡◌, ℕ, suc, ◌<◌, ◌≤◌, List, [], ◌∷◌, ◌++◌, drop, get_or, length, map, take}
 use Rattle.std.specs.List.{All, insert}
 use Rattle.cost_points.specs.Joined.{joined}
 use Rattle.cost_points.specs.Search.{IsAt, IsInsertionPoint}
@@ -35,6 +35,12 @@ pub record IsPlaceOf {A : Type 0} (key : A → ℕ) (bs : List (List A)) (x b at
 pub record IsGapOf {A : Type 0} (key : A → ℕ) (bs : List (List A)) (x b at : ℕ) : Type 0 where
   pub block : IsBlockOf key bs x b
   pub here : IsInsertionPoint (map key (get_or bs b [])) x at
+
+-- The item stands at a place of block b.
+pub record IsItemAt {A : Type 0} (bs : List (List A)) (b at : ℕ) (x : A) : Type 0 where
+  pub block : b < length bs
+  pub inside : at < length (get_or bs b [])
+  pub here : (d : A) → get_or (get_or bs b []) at d ≡ x
 
 -- What a search by halves between two blocks knows: the key is not below the first item of the lower block, if that is not
 -- the first one, and below the first item of the upper one, if there is such a block.
