@@ -119,6 +119,11 @@ def is_whole(path: str) -> bool:
     return re.search(rb"\ndone [0-9]+\n\Z", data) is not None
 
 
+def is_whole_report(path: str) -> bool:
+    """Whether a file is a report of any version, or one of cache misses, and has its end."""
+    return is_whole(path) and re.match(rb"aprof (?:[12]|cache 1)\n", Path(path).read_bytes()) is not None
+
+
 def remove_halves(read: Words, began: float) -> list[str]:
     """Removes what a run that a signal ended wrote in part. `began` is the time at which it began."""
     removed = []
