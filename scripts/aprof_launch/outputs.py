@@ -141,6 +141,16 @@ def remove_halves(read: Words, began: float) -> list[str]:
     return removed
 
 
+def unfinished(read: Words, began: float) -> str:
+    """What is said where a signal ended the run before its output was stored, or nothing."""
+    path = read.values.get("-o", "")
+    if not path or read.command is None or (is_after(path, began) and is_whole(path)):
+        return ""
+    what = "trace" if read.command.name == "trace" else "report"
+    budget = f"; with --budget N a run ends after N instructions, and its {what} is stored"
+    return f"no {what} is stored" + (budget if read.command.option("--budget") else "")
+
+
 def is_after(path: str, began: float) -> bool:
     """Whether the file was written since. A file's time may lie behind the clock's, never before it."""
     return os.path.isfile(path) and os.stat(path).st_mtime > began
