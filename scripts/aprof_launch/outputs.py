@@ -121,7 +121,9 @@ def is_whole(path: str) -> bool:
 
 def is_whole_report(path: str) -> bool:
     """Whether a file is a report of any version, or one of cache misses, and has its end."""
-    return is_whole(path) and re.match(rb"aprof (?:[12]|cache 1)\n", Path(path).read_bytes()) is not None
+    if not os.path.isfile(path) or not is_whole(path):
+        return False
+    return re.match(rb"aprof (?:[12]|cache 1)\n", Path(path).read_bytes()) is not None
 
 
 def remove_halves(read: Words, began: float) -> list[str]:

@@ -178,8 +178,8 @@ class Words(Launched):
 
     def test_words_run_together(self) -> None:
         """`-output r` is `-o utput r` for the program."""
-        for words, status, more in (("run -output r bubble", 2, {}), ("run -output text bubble", 3, {"FAKE_TEXT": "image 2"})):
-            done = self.run_words(words, status, **more)
+        for words, status, text in (("run -output r bubble", 2, "cannot read r"), ("run -output text bubble", 3, "image 2")):
+            done = self.run_words(words, status, FAKE_TEXT=text)
             self.assertIn("(-output was read as -o utput: write -o PATH)\n", done.stderr)
 
     def test_report_as_trace(self) -> None:
