@@ -76,8 +76,8 @@ class Hints:
     def bad_image(self) -> list[str]:
         number = self.asked_again("run", "--budget", "1", "-o", "/dev/null", "--", self.image())
         why = images.why_bad(self.image()) if number in images.NUMBERS else ""
-        first, *rest = [why] if why else tables.image_row(number) if number is not None else [""]
-        return [f"{self.image()}: {first}", *rest, *self.run_together()] if first else []
+        rows = [why] if why else tables.image_row(number) if number is not None else []
+        return [f"{self.image()}: {rows[0]}", *rows[1:], *self.run_together()] if rows else []
 
     def run_together(self) -> list[str]:
         """What is said where `-output` was read as `-o utput`, so that the file behind it was taken for the image."""
