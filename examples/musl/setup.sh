@@ -1,6 +1,6 @@
 #!/usr/bin/env bash
-# Makes the C library musl for rv32ima, built by clang from Debian's source package. It needs no rights of root, takes a
-# minute or two, and downloads some 60 MB by the machine's own package sources. The library's folder is `library` beside
+# Makes the C library musl for rv32ima, built by clang from Debian's source package. It needs no rights of root, takes
+# one to three minutes, and downloads some 60 MB by the machine's own package sources. The library's folder is `library` beside
 # this script, ~/.local/share/aprof/musl where the script is below /usr, or the one that APROF_MUSL names.
 set -eu
 here=$(dirname "$(readlink -f "$0")")

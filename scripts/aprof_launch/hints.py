@@ -10,7 +10,7 @@ from collections.abc import Callable
 
 from aprof_copy.called import launcher
 from aprof_launch import ends, images, tables
-from aprof_launch.outputs import is_begun_trace, is_whole, refusals
+from aprof_launch.outputs import is_begun_trace, is_whole, is_whole_report, refusals
 from aprof_launch.places import has_reader, is_full, takes_nothing, why_device, why_unread
 from aprof_launch.usage import usage
 from aprof_launch.words import Words
@@ -69,19 +69,27 @@ class Hints:
                     instead = ": write = for an empty argument" if is_word else ", and there is none"
                     return [f"an empty word names a file{instead}"]
                 quoted = shlex.quote(f"={path}")
-                return [f"{path}: {why}" + (f"; a word names a file: write {quoted} for an argument" if is_word else "")]
+                line = f"{path}: {why}" + (f"; a word names a file: write {quoted} for an argument" if is_word else "")
+                return [line, *self.run_together()]
         return []
 
     def bad_image(self) -> list[str]:
         number = self.asked_again("run", "--budget", "1", "-o", "/dev/null", "--", self.image())
         why = images.why_bad(self.image()) if number in images.NUMBERS else ""
-        return [why] if why else tables.image_row(number) if number is not None else []
+        rows = [why] if why else tables.image_row(number) if number is not None else []
+        return [f"{self.image()}: {rows[0]}", *rows[1:], *self.run_together()] if rows else []
+
+    def run_together(self) -> list[str]:
+        """What is said where `-output` was read as `-o utput`, so that the file behind it was taken for the image."""
+        path = self.output
+        return [f"(-o{path} was read as -o {path}: write -o PATH)"] if path in RUN_TOGETHER else []
 
     def unwritten(self) -> list[str]:
         if sys.stdout is None:
             return ["standard output is closed"]
         if not has_reader(1):
-            return ["the reader of standard output has gone; the report is stored behind the output: write that to a file"]
+            gone = "the reader of standard output ended before the run did"
+            return [f"{gone}, and nothing is stored: write the output to a file, and read that"]
         again = [line.removeprefix("aprof: ") for line in refusals(self.read)]
         full = [f"{path}: no space left" for path in self.read.outputs() if takes_nothing(path)]
         full += ["standard output: no space left"] if takes_nothing(1) else []
@@ -149,19 +157,19 @@ class Hints:
 
     def deadlock(self) -> list[str]:
         waits = "no thread can go on: each waits for a lock, a signal or another's end"
-        return [f"{waits}; what is stored is of the run so far", *self.chain()]
+        return [f"{waits}; {SO_FAR}", *self.chain()]
 
     def too_deep(self) -> list[str]:
         bits = self.read.values.get("--stamps", "32")
         limit = {"8": "84", "16": "21844"}.get(bits, "1431655764")
-        return [f"--stamps {bits} tells at most {limit} open calls apart" + ("" if bits == "32" else ": leave it out")]
+        return [f"--stamps {bits} tells at most {limit} open calls apart" + ("" if bits == "32" else ": leave --stamps out") + f"; {SO_FAR}"]
 
     def schedule(self) -> list[str]:
         path = self.read.values.get("--schedule", "")
         number = self.asked_again("run", "--budget", "1", "--schedule", path, "-o", "/dev/null", "--", self.image())
         if number is None:
-            other = f"it is the schedule of another run ({OTHER_RUNS})"
-            return [f"the thread of that line of {path} can't run then: {other}; record it anew"]
+            where = f"the thread of that line of {path} can't run at that point"
+            return [f"{where}: the schedule was edited, or is of another run ({OTHER_RUNS}); record it anew", SO_FAR]
         try:
             with open(path, "rb") as file:
                 line = file.read().split(b"\n")[number - 1][:60].decode(errors="replace")
@@ -190,9 +198,13 @@ class Hints:
         if number in (1, 4) and is_begun_trace(self.image()):
             is_empty = os.path.getsize(self.image()) == 0
             return [f"{self.image()} is empty" if is_empty else f"{self.image()} is cut off: store it again with `aprof trace`"]
-        return [f"{self.image()} is no trace that `aprof trace` stored: {text}"] if text else []
+        if number == 1 and is_whole_report(self.image()):
+            return [f"{self.image()} is a report already: `{launcher()} show` shows it"]
+        return [f"{self.image()} is not a trace as `aprof trace` stores it: {text}; store it again"] if text else []
 
 
+RUN_TOGETHER = ("utput", "ut", "utfile")
+SO_FAR = "what is stored is of the run so far"
 OTHER_RUNS = "of other words or input, of another build, or of the image by another path"
 CONTEXT_OPTIONS = ("--stdin", "--quantum", "--schedule", "--budget", "--stamps")
 # what a command makes that may be too large, if no file that it read is

@@ -1,12 +1,18 @@
-"""What is wrong with a file that is no image, where that is none of the compiler's making."""
+"""What is wrong with a file that is no image, where README's table tells less."""
 from __future__ import annotations
 
 import struct
 from pathlib import Path
 
 HEAD = b"\x7fELF"
-NUMBERS = (1, 2, 3, 4, 5, 9, 10, 12)
+NUMBERS = (1, 2, 3, 4, 5, 7, 8, 9, 10, 12)
 """What the program says of such files: `image K`."""
+
+PROCESSORS = {3: "x86", 8: "MIPS", 20: "PowerPC", 40: "ARM", 62: "x86-64", 183: "AArch64", 243: "RISC-V"}
+"""By e_machine."""
+
+COMPRESSED, FLOATS, FEW_REGISTERS = 1, 6, 8
+"""The bits of e_flags that a file is refused for."""
 
 
 def why_bad(path: str) -> str:
@@ -16,10 +22,34 @@ def why_bad(path: str) -> str:
     except OSError:
         return ""
     if not data:
-        return "the file is empty"
+        return "it is empty"
     if is_cut(data):
-        return "the file is cut off: copy or link it again"
-    return "a text, no executable: compile it first (examples/musl/cc)" if is_text(data) else ""
+        return "it is cut off: copy or link it again"
+    if is_text(data):
+        return "it is a text, not an executable: compile it first (examples/musl/cc)"
+    return foreign(data) or unsupported(data)
+
+
+def foreign(data: bytes) -> str:
+    """Which other machine an ELF file is for, or nothing."""
+    if not data.startswith(HEAD) or data[4:5] not in (b"\1", b"\2") or data[5:6] not in (b"\1", b"\2") or len(data) < 20:
+        return ""
+    bits, order = 32 * data[4], "little" if data[5] == 1 else "big"
+    (machine,) = struct.unpack_from("<H" if data[5] == 1 else ">H", data, 18)
+    if (bits, order, machine) == (32, "little", 243):
+        return ""
+    name = PROCESSORS.get(machine, f"processor {machine} (e_machine)")
+    return f"it is a {bits}-bit {order}-endian executable for {name}: compile it for RV32 (examples/musl/cc)"
+
+
+def unsupported(data: bytes) -> str:
+    """What an executable for RV32 has that the program has not, or nothing."""
+    if not data.startswith(HEAD) or len(data) < 40:
+        return ""
+    (flags,) = struct.unpack_from("<I", data, 36)
+    named = ((COMPRESSED, "compressed instructions"), (FLOATS, "floats in registers"), (FEW_REGISTERS, "RV32E"))
+    found = [what for bit, what in named if flags & bit]
+    return f"it has {' and '.join(found)}: build it and its libraries with -march=rv32ima -mabi=ilp32" if found else ""
 
 
 def is_text(data: bytes) -> bool:

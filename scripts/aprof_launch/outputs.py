@@ -119,6 +119,13 @@ def is_whole(path: str) -> bool:
     return re.search(rb"\ndone [0-9]+\n\Z", data) is not None
 
 
+def is_whole_report(path: str) -> bool:
+    """Whether a file is a report of any version, or one of cache misses, and has its end."""
+    if not os.path.isfile(path) or not is_whole(path):
+        return False
+    return re.match(rb"aprof (?:[12]|cache 1)\n", Path(path).read_bytes()) is not None
+
+
 def remove_halves(read: Words, began: float) -> list[str]:
     """Removes what a run that a signal ended wrote in part. `began` is the time at which it began."""
     removed = []
@@ -134,6 +141,16 @@ def remove_halves(read: Words, began: float) -> list[str]:
         except OSError:
             continue
     return removed
+
+
+def unfinished(read: Words, began: float) -> str:
+    """What is said where a signal ended the run before its output was stored, or nothing."""
+    path = read.values.get("-o", "")
+    if not path or read.command is None or (is_after(path, began) and is_whole(path)):
+        return ""
+    what = "trace" if read.command.name == "trace" else "report"
+    budget = f"; with --budget N a run ends after N instructions, and its {what} is stored"
+    return f"no {what} is stored" + (budget if read.command.option("--budget") else "")
 
 
 def is_after(path: str, began: float) -> bool:

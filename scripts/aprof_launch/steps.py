@@ -57,8 +57,12 @@ def hint_step(words: list[str]) -> int:
 
 def interrupted_step(words: list[str]) -> int:
     """Behind a run that a signal ended: the time at which it began, and its words."""
-    for path in outputs.remove_halves(read_words(words[1:]), float(words[0])):
+    read, began = read_words(words[1:]), float(words[0])
+    for path in outputs.remove_halves(read, began):
         say(f"aprof: {path} was written in part, and is removed")
+    unfinished = outputs.unfinished(read, began)
+    if unfinished and os.environ.get("APROF_HINTS") != "0":
+        say(f"aprof: {unfinished}")
     return 0
 
 

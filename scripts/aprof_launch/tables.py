@@ -30,8 +30,8 @@ FAULTS = {kind: f"{what}{REMARKS.get(kind, '')}" for kind, what in enumerate(end
 
 TRACES = {
     1: "its first line is another",
-    2: "a record has no form",
-    3: "a record may not come there",
+    2: "a record is malformed",
+    3: "a record is out of order",
     4: "the end is missing",
 }
 
@@ -58,5 +58,5 @@ def schedule_line(line: str) -> str:
 
 def image_row(number: int) -> list[str]:
     """The row of README's table for `image K`."""
-    rows = [f"the file {what}; what mends it: {cure}" for numbers, what, cure in IMAGES if number in numbers]
+    rows = [f"it {what}; to fix it: {cure}" for numbers, what, cure in IMAGES if number in numbers]
     return [*rows, *([NO_START] if number == 17 else [])]

@@ -52,6 +52,15 @@ def notes() -> str:
     return "\n".join([NOTES.rstrip(), *signs, REST])
 
 
+OTHER_NAMES = {
+    **dict.fromkeys(("--source", "--lines", "--line", "--binary", "--executable"), "--image"),
+    **dict.fromkeys(("--sort", "--order"), "--by"),
+    **dict.fromkeys(("--flame", "--flamegraph"), "--folded"),
+    "--html": "--page",
+}
+"""What options are called elsewhere."""
+
+
 class Parser(argparse.ArgumentParser):
     """Says what is wrong in a line, as for all else that is refused, and doesn't hide that help can't be written."""
 
@@ -63,7 +72,8 @@ class Parser(argparse.ArgumentParser):
         if what != "unrecognized arguments":
             raise Refused(message.removeprefix("argument "))
         option = words.split()[0].partition("=")[0]
-        near = get_close_matches(option, self._option_string_actions, 1)
+        named = OTHER_NAMES.get(option)
+        near = [named] if named else get_close_matches(option, self._option_string_actions, 1)
         raise Refused(f"no option {option}" + (f"; there is {near[0]}" if near else f"; `{called.name()} --help` lists them"))
 
 

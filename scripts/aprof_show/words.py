@@ -71,6 +71,8 @@ def missing_text(options: argparse.Namespace, names: Sequence[str]) -> str:
         missing = f"{options.callers} is a file; {BEHIND_CALLERS}"
     elif options.against and not names:
         return f"--against OLD wants the new report too: {called.name()} --against {options.against} NEW"
+    elif options.page and not names:
+        return f"--page FILE wants a report too: {called.name()} --page FILE REPORT..."
     return f"{missing}; `{called.name()} --help` tells more"
 
 
@@ -124,9 +126,18 @@ def named(routines: Collection[Routine], name: str) -> list[Routine]:
     found = [routine for routine in routines if routine.is_called(name)]
     found = found or [routine for routine in routines if routine.is_at(name)]
     if not found:
-        near = get_close_matches(name, [routine.label for routine in routines], 1)
-        raise Refused(f"no file and no routine called {name}" + (f"; there is {near[0]}" if near else "") + " (--all lists them)")
+        near = nearest(name, [routine.label for routine in routines])
+        raise Refused(f"no file and no routine called {name}" + (f"; there is {near}" if near else "") + " (--all lists them)")
     return found
+
+
+def nearest(name: str, labels: list[str]) -> str:
+    """The label that was most likely meant: the shortest one that begins with the name, or has it, or else one that is spelled
+    nearly alike."""
+    having = [label for label in labels if name in label]
+    if having:
+        return min(having, key=lambda label: (not label.startswith(name), len(label)))
+    return next(iter(get_close_matches(name, labels, 1)), "")
 
 
 def all_named(routines: Collection[Routine], names: Iterable[str]) -> set[Routine]:

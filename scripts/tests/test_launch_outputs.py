@@ -151,7 +151,7 @@ class Outputs(Launched):
         done = subprocess.run(words, cwd=self.folder, env=environment, stdout=writer, stderr=subprocess.PIPE, text=True)
         os.close(writer)
         self.assertEqual(done.returncode, 4)
-        self.assertIn("aprof: the reader of standard output has gone", done.stderr)
+        self.assertIn("aprof: the reader of standard output ended before the run did", done.stderr)
 
 
 if __name__ == "__main__":

@@ -13,6 +13,8 @@ from pathlib import Path
 
 from tests.launched import Launched
 
+UNFINISHED = "aprof: no report is stored; with --budget N a run ends after N instructions, and its report is stored\n"
+
 
 class Runs(Launched):
     def test_standard_input(self) -> None:
@@ -45,7 +47,7 @@ class Runs(Launched):
             started = self.started()
             os.kill(started.pid, number)
             out, err = started.communicate(timeout=20)
-            self.assertEqual((started.returncode, out, err), (-number, "", ""))
+            self.assertEqual((started.returncode, out, err), (-number, "", UNFINISHED))
             self.assertEqual(self.sleeping(), [])
 
     def test_status_of_ctrl_c(self) -> None:
@@ -76,16 +78,16 @@ class Runs(Launched):
             os.kill(started.pid, signal.SIGTERM)
             _, err = started.communicate(timeout=20)
             self.assertEqual((self.folder / "r").exists(), is_left)
-            self.assertEqual(err, "" if is_left else "aprof: r was written in part, and is removed\n")
+            self.assertEqual(err, "" if is_left else f"aprof: r was written in part, and is removed\n{UNFINISHED}")
         for stored in ("my notes\\n", "my notes"):
             started = self.started(FAKE_STORED=stored)
             os.kill(started.pid, signal.SIGINT)
-            self.assertEqual(started.communicate(timeout=20)[1], "")
+            self.assertEqual(started.communicate(timeout=20)[1], UNFINISHED)
             self.assertTrue((self.folder / "r").read_text().startswith("my notes"))
         (self.folder / "r").write_text("aprof 2\nend ex")
         started = self.started()
         os.kill(started.pid, signal.SIGINT)
-        self.assertEqual(started.communicate(timeout=20)[1], "")
+        self.assertEqual(started.communicate(timeout=20)[1], UNFINISHED)
         self.assertTrue((self.folder / "r").exists())
         (self.folder / "r").write_text("old")
         os.utime(self.folder / "r", (1, 1))

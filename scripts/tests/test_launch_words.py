@@ -64,7 +64,7 @@ HINTS: Sequence[tuple[str | Sequence[str], int, Sequence[str]]] = (
      ["after 9 instructions", "contexts --budget 9 --schedule k -o contexts.txt bubble\n"]),
     ("contexts -o bubble.txt bubble", 6, ["./aprof show --open --image bubble contexts.txt"]),
     ("cache --sets 4 --ways 4 --line 64 -o r bubble", 7, ["no thread can go on", "./aprof contexts -o contexts.txt bubble\n"]),
-    ("run --stamps 8 -o r bubble", 8, ["--stamps 8 tells at most 84 open calls apart: leave it out\n"]),
+    ("run --stamps 8 -o r bubble", 8, ["--stamps 8 tells at most 84 open calls apart: leave --stamps out; what is stored is of the run so far\n"]),
     ("run -o r bubble", 10, ["too little memory free"]),
     ("run -o r bubble", 11, ["limits: 16 MiB a file"]),
     ("trace -o t bubble", 11, ["the trace has more than 64 MiB"]),
@@ -75,7 +75,7 @@ HINTS: Sequence[tuple[str | Sequence[str], int, Sequence[str]]] = (
     ("run -o r bubble", 0, []),
 )
 
-CUT = "the file is cut off: copy or link it again"
+CUT = "it is cut off: copy or link it again"
 
 # where a run has no code, and how it came there
 NO_CODE = (
@@ -133,8 +133,8 @@ class Words(Launched):
 
     def test_numbers_of_the_text(self) -> None:
         """The row of README's table, the line of a schedule and what is wrong with a trace."""
-        done = self.run_words("run -o r text", 3, FAKE_TEXT="image 7")
-        self.assertIn("aprof: the file is for another processor; what mends it: --target=riscv32\n", done.stderr)
+        done = self.run_words("run -o r bubble", 3, FAKE_TEXT="image 7")
+        self.assertIn("aprof: bubble: it is for another processor; to fix it: --target=riscv32\n", done.stderr)
         (self.folder / "turns").write_text("1 10\nx\n")
         done = self.run_words("run --schedule turns -o r bubble", 9, FAKE_TEXT="schedule 2")
         self.assertIn("aprof: line 2 of turns is 'x', and not of the form TID STEPS, as 1 10000: two numbers and one space\n", done.stderr)
@@ -143,24 +143,49 @@ class Words(Launched):
             done = self.run_words("run --schedule turns -o r bubble", 9, FAKE_TEXT="schedule 1")
             self.assertIn(f"aprof: line 1 of turns is {line!r}, and {why}\n", done.stderr)
         done = self.run_words("run --schedule turns -o r bubble", 9, FAKE_TEXT="schedule")
-        self.assertIn("it is the schedule of another run", done.stderr)
+        self.assertIn("the schedule was edited, or is of another run", done.stderr)
         done = self.run_words("replay -o r text", 13, FAKE_TEXT="trace 1")
-        self.assertIn("aprof: text is no trace that `aprof trace` stored: its first line is another\n", done.stderr)
+        self.assertIn("aprof: text is not a trace as `aprof trace` stores it: its first line is another; store it again\n", done.stderr)
 
     def test_files_of_no_use(self) -> None:
         """Images and traces that are empty or cut off, and a text."""
         bubble = (self.folder / "bubble").read_bytes()
-        text = (b"int x;\n", "a text, no executable: compile it first (examples/musl/cc)\n")
-        images = ((b"", "the file is empty"), (bubble[:-1], CUT), (bubble[:9], CUT), text)
+        text = (b"int x;\n", "it is a text, not an executable: compile it first (examples/musl/cc)\n")
+        images = ((b"", "it is empty"), (bubble[:-1], CUT), (bubble[:9], CUT), text)
         for data, why in images:
             (self.folder / "image").write_bytes(data)
-            self.assertIn(f"aprof: {why}", self.run_words("run -o r image", 3, FAKE_TEXT="image 1").stderr)
-        self.assertIn("aprof: the file is no whole", self.run_words("run -o r bubble", 3, FAKE_TEXT="image 1").stderr)
+            self.assertIn(f"aprof: image: {why}", self.run_words("run -o r image", 3, FAKE_TEXT="image 1").stderr)
+        self.assertIn("aprof: bubble: it is no whole", self.run_words("run -o r bubble", 3, FAKE_TEXT="image 1").stderr)
         cut = "is cut off: store it again with `aprof trace`\n"
         traces = ((b"", 1, "is empty\n"), (b"aprof tr", 1, cut), (b"aprof trace 1\n\1", 4, cut))
         for data, number, why in traces:
             (self.folder / "trace").write_bytes(data)
             self.assertIn(f"aprof: trace {why}", self.run_words("replay -o r trace", 13, FAKE_TEXT=f"trace {number}").stderr)
+
+    def test_other_machines(self) -> None:
+        """Executables that aprof can't run: for what they are, and what they have."""
+        bubble = (self.folder / "bubble").read_bytes()
+        changes = (
+            ("image 3", 4, b"\2", "it is a 64-bit little-endian executable for RISC-V: compile it for RV32"),
+            ("image 7", 18, b"\x28\0", "it is a 32-bit little-endian executable for ARM: compile it for RV32"),
+            ("image 7", 18, b"\x63\0", "it is a 32-bit little-endian executable for processor 99 (e_machine): compile it"),
+            ("image 8", 36, b"\5", "it has compressed instructions and floats in registers: build it and its libraries with"),
+            ("image 8", 36, b"\x08", "it has RV32E: build it"),
+        )
+        for text, place, new, why in changes:
+            (self.folder / "image").write_bytes(bubble[:place] + new + bubble[place + len(new) :])
+            self.assertIn(f"aprof: image: {why}", self.run_words("run -o r image", 3, FAKE_TEXT=text).stderr)
+
+    def test_words_run_together(self) -> None:
+        """`-output r` is `-o utput r` for the program."""
+        for words, status, text in (("run -output r bubble", 2, "cannot read r"), ("run -output text bubble", 3, "image 2")):
+            done = self.run_words(words, status, FAKE_TEXT=text)
+            self.assertIn("(-output was read as -o utput: write -o PATH)\n", done.stderr)
+
+    def test_report_as_trace(self) -> None:
+        (self.folder / "old").write_text("aprof 2\nend exit 0\nsteps 3\nopen 0\ndone 0\n")
+        done = self.run_words("replay -o r old", 13, FAKE_TEXT="trace 1")
+        self.assertIn("aprof: old is a report already: `./aprof show` shows it\n", done.stderr)
 
     def test_bytes(self) -> None:
         """A word that is not UTF-8 is told by its escapes."""
