@@ -1,28 +1,18 @@
 //! What the kernel's answers do to the threads.
-ghost use Rattle.std.specs.Prelude.{◌≡◌, ◌≤◌, ◌<◌, ◌+◌, ◌++◌, ℕ, true, length, is_some, map, All};
+ghost use Rattle.std.specs.Prelude.{◌≡◌, ◌≤◌, ◌<◌, ◌+◌, ◌++◌, ℕ, true, length, is_some, All};
 ghost use Rattle.guest_words.specs.ByThread.{numbers, value_of};
 ghost use Rattle.rv_exec.specs.Registers.{Registers};
-ghost use Rattle.trace_model.specs.declared.event_kinds.Event.TheVariants.{End};
 ghost use Rattle.guest_machine.specs.Machine.{registers_of};
 ghost use Rattle.guest_machine.specs.Step.{harts_after, life_events, stepped_by};
 
 use crate::Stepped;
 use crate::hart::resume;
+use crate::step_events::add_ends;
 use guest_kernel::Answer;
 use guest_words::limits::THREADS;
 use guest_words::{ByThread, Tid};
 use rv_exec::Cpu;
 use trace_model::{Event, Events};
-
-// Adds the end of each thread.
-fn add_ends(events: &mut Events, harts: &[(Tid, Cpu)])
-    requires { length harts.now ≤ events.old.room }
-    ensures { events.new.list ≡ events.old.list ++ map (λ h. End h.0) harts.now }
-{
-    for hart in harts {
-        events.push(Event::End { tid: hart.0 });
-    }
-}
 
 /// Starts, blocks or ends threads as the kernel answered the system call of one of them.
 pub(crate) fn apply_answer(

@@ -15,6 +15,7 @@ ghost use Rattle.trace_model.specs.declared.event_kinds.Event.{Event};
 use crate::answers::apply_answer;
 use crate::hart::{cpu_of, execute_for};
 use crate::rows::run_on;
+use crate::step_events::{add_jump, add_step};
 use crate::telling::told;
 use crate::{Advanced, KnownSteps, Stepped};
 use guest_calls::syscall;
@@ -26,6 +27,9 @@ use rv_exec::{Cpu, Outcome};
 use rv_isa::{Instr, decode};
 use std::alloc::AllocError;
 use trace_model::{Event, Events, Observer};
+
+// The room for the events of an instruction: its step, and at most two accesses, or a return and a call.
+const EVENTS_OF_AN_INSTRUCTION: usize = 4;
 
 // A call has its step, at most `SYSCALL_EVENTS` copies that the kernel makes, and ends at most `THREADS` threads.
 const EVENTS_OF_A_CALL_STEP: usize = 1 + SYSCALL_EVENTS + THREADS;
@@ -41,6 +45,19 @@ pub(crate) struct Guest {
     pub(crate) entry: Addr,
     /// Whether the last step was a system call.
     pub(crate) called: bool,
+}
+
+// Makes room for the events of an instruction, where there is none.
+#[inline(always)]
+fn make_room(events: &mut Events) -> Result<(), AllocError>
+    ensures room { OnOk result (4 ≤ events.new.room) }
+    ensures list { events.new.list ≡ events.old.list }
+    ensures no_allocation { 4 ≤ events.old.room → IsOk result }
+{
+    if events.room() >= EVENTS_OF_AN_INSTRUCTION {
+        return Ok(());
+    }
+    events.reserve(EVENTS_OF_AN_INSTRUCTION)
 }
 
 #[tactic(auto, unfolding(crate::specs::Kept::machine_of, crate::specs::Step::step))]
@@ -211,6 +228,42 @@ impl Guest {
         self.called = false;
         Advanced::Other {
             stepped: Stepped::Faulted { kind, at: pc },
+        }
+    }
+
+    /// Runs one step of a thread that can run, and adds its events. An instruction other than ECALL does not allocate if
+    /// there is room for four events.
+    pub(crate) fn step(&mut self, tid: Tid, events: &mut Events) -> Result<Stepped, AllocError>
+        requires sound { IsSoundMachine (machine_of (parts_of self.old)) }
+        requires can_run { can_run (machine_of (parts_of self.old)) tid ≡ true }
+        requires spare { THREADS ≤ length self.old.harts.list + self.old.harts.room }
+        ensures step { IfOk result (λ stepped. Steps
+            (step (machine_of (parts_of self.old)) tid) stepped
+            (parts_of self.new) events.old.list events.new.list) }
+        ensures refused { OnErr result (IsAsBefore (parts_of self.old)
+            (parts_of self.new) events.old.list events.new.list) }
+        ensures no_allocation { 4 ≤ events.old.room → next_instruction
+            (machine_of (parts_of self.old)) tid ≢ Ok Ecall → IsOk result }
+        ensures sound { IsSoundMachine (machine_of (parts_of self.new)) }
+        ensures spare { THREADS ≤ length self.new.harts.list + self.new.harts.room }
+        ensures entry { self.new.entry ≡ self.old.entry }
+    {
+        make_room(events)?;
+        match self.advance(tid, events)? {
+            Advanced::Ran => {
+                events.push(Event::Step { tid });
+                Ok(Stepped::Went)
+            }
+            Advanced::Accessed { access } => {
+                add_step(events, tid, access);
+                Ok(Stepped::Went)
+            }
+            Advanced::Jumped { jump, target, back } => {
+                events.push(Event::Step { tid });
+                add_jump(events, tid, jump, target, back);
+                Ok(Stepped::Went)
+            }
+            Advanced::Other { stepped } => Ok(stepped),
         }
     }
 }

@@ -2,7 +2,7 @@
 //! of one thread. Instructions are those of the RISC-V unprivileged specification, calls those of Linux on riscv32, and
 //! the start is that of the ELF gABI and the System V ABI.
 //!
-//! Contracts see a machine as one state (specs/Machine.antt), a step as one definition (specs/Step.antt), and a new machine
+//! Contracts see a machine as one state (specs/Machine.antt), `step` as one definition (specs/Step.antt), and a new machine
 //! as the start state (specs/Start.antt).
 #![tactic(auto)]
 
@@ -17,6 +17,7 @@ mod rows;
 mod setup;
 mod stack;
 mod start_memory;
+mod step_events;
 mod stepped;
 mod telling;
 mod waking;

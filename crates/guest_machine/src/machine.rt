@@ -4,7 +4,7 @@ ghost use Rattle.std.specs.Prelude.{◌≡◌, ◌≢◌, ◌≤◌, true, Ok, O
 use crate::guest::Guest;
 use crate::setup::first_guest;
 use crate::stack::strings_length;
-use crate::{Advanced, KnownSteps, SetupError};
+use crate::{Advanced, KnownSteps, SetupError, Stepped};
 use elf_image::Image;
 use guest_kernel::{Channel, Inputs};
 use guest_words::limits::{PAGES, STACK_PAGES};
@@ -44,7 +44,7 @@ impl Machine {
     ghost use Rattle.guest_machine.specs.Start.{start};
     ghost use Rattle.std.specs.Option.{option_map};
     ghost use Rattle.rv_isa.specs.declared.instruction.Instr.TheVariants.{Ecall};
-    ghost use Rattle.guest_machine.specs.Kept.{machine_of, out_of, IsAsBefore};
+    ghost use Rattle.guest_machine.specs.Kept.{machine_of, out_of, IsAsBefore, Steps};
     ghost use Rattle.guest_machine.specs.Machine.{can_run, ready};
     ghost use Rattle.guest_machine.specs.Running.{MakesSteps, MayTakeSteps};
     ghost use Rattle.guest_machine.specs.Told.{IsQuiet, StepsTold};
@@ -124,6 +124,21 @@ impl Machine {
         ensures quiet { IfOk result (λ advanced. IsQuiet advanced self.new events.old events.new) }
     {
         self.guest.advance(tid, events)
+    }
+
+    /// Runs one step of a thread that can run, and adds its events. An instruction other than ECALL does not allocate if
+    /// there is room for four events.
+    pub fn step(&mut self, tid: Tid, events: &mut Events) -> Result<Stepped, AllocError>
+        requires { can_run (machine_of self.old) tid ≡ true }
+        ensures step { IfOk result (λ stepped. Steps
+            (step (machine_of self.old) tid) stepped self.new events.old.list events.new.list) }
+        ensures refused { OnErr result (IsAsBefore self.old self.new
+            events.old.list events.new.list) }
+        ensures no_allocation { 4 ≤ events.old.room → next_instruction
+            (machine_of self.old) tid ≢ Ok Ecall → IsOk result }
+        ensures entry { self.new.entry ≡ self.old.entry }
+    {
+        self.guest.step(tid, events)
     }
 
     /// Wakes all threads that are due by the clock, each with its deadline's answer in a0. Where then no thread can run and a

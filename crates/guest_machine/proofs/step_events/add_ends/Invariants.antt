@@ -1,6 +1,6 @@
 use Rattle.std.proofs.Common.{◌≡◌, ◌≤◌, ◌-◌, ◌++◌, length, map, take}
 use Rattle.trace_model.specs.declared.event_kinds.Event.TheVariants.{End}
-use Rattle.guest_machine.proofs.answers.add_ends.Given as goal
+use Rattle.guest_machine.proofs.step_events.add_ends.Given as goal
 
 abbrev pub invariant-loop-hart : goal.invariant-loop-hart
 invariant-loop-hart l = record {
