@@ -3,13 +3,13 @@ use Rattle.std.proofs.Common.{◌≡◌, ℕ, ◌+◌, ◌≤◌, suc, List, [],
 use Rattle.std.specs.List.{All, count_by}
 use Rattle.std.proofs.lemmas.List.{append-nil}
 use Rattle.std.proofs.lemmas.List.Sums.{sum_by-append}
-use Rattle.cost_points.specs.Keys.{rising, IsRising, grouped}
+use Rattle.cost_points.specs.Keys.{rising, IsRising, grouped, put}
 use Rattle.cost_points.proofs.Grouped.{grouped_labels}
 use Rattle.cost_points.proofs.Put.{grouped_put, keys_put, length-put, put-all, put_above, put_below, put_same}
 use Rattle.cost_points.proofs.Rising.{IsRising-insert, IsRising-rising, order}
 use Rattle.cache_profile.specs.declared.routines.RoutineMisses.{RoutineMisses}
 use Rattle.cache_profile.specs.ByRoutine.{LineAccess, by_routine, counts_of}
-use Rattle.cache_profile.specs.Private.Added.{AreOf, HasRoom, plus, with_accesses, with_routine}
+use Rattle.cache_profile.specs.Private.Added.{HasRoom, plus, with_routine}
 
 abbrev entry_of : LineAccess → ℕ
 entry_of a = a.entry
@@ -26,6 +26,18 @@ counts entry accesses misses = record { entry = entry; accesses = accesses; miss
 pub none_by_routine : [] ≡ by_routine []
 unfolding grouped
 none_by_routine = refl
+
+-- the routines with more accesses and misses of the one at the entry
+abbrev pub with_accesses : (entry accesses misses : ℕ) → List RoutineMisses → List RoutineMisses
+with_accesses entry accesses misses rs =
+    put (λ r. r.entry) entry (plus accesses misses) (record { entry = entry; accesses = accesses; misses = misses }) rs
+
+-- These are accesses of the routine: at least one, `accesses` in all, of which `misses` miss.
+pub record AreOf (entry accesses misses : ℕ) (more : List LineAccess) : Type 0 where
+  pub some : 1 ≤ accesses
+  pub entries : All (λ a. a.entry ≡ entry) more
+  pub all : length more ≡ accesses
+  pub missing : count_by (λ a. a.missed) more ≡ misses
 
 -- accesses of one routine add to its counts
 pub more_by_routine : (all more : List LineAccess) (x accesses misses : ℕ) → AreOf x accesses misses more → by_routine (all ++ more) ≡ with_accesses x accesses misses (by_routine all)

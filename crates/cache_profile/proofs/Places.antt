@@ -1,5 +1,5 @@
 -- Routines in blocks.
-use Rattle.std.proofs.Common.{◌≡◌, ℕ, ◌<◌, List, [], ◌++◌, length, get_or, set, map, refl, sym, ap, ◌∙◌, subst, arith}
+use Rattle.std.proofs.Common.{◌≡◌, ℕ, ◌<◌, List, [], ◌++◌, length, get_or, set, map, sym, ap, ◌∙◌, subst, arith}
 use Rattle.std.proofs.lemmas.List.{get_or_default, length-map, set-get_or}
 use Rattle.cost_points.specs.Joined.{joined}
 use Rattle.cost_points.specs.Keys.{IsRising}
@@ -7,8 +7,8 @@ use Rattle.cost_points.specs.Places.{IsItemAt, IsPlaceOf}
 use Rattle.cost_points.proofs.InBlocks.{item_changed, place_at, put_changed}
 use Rattle.cache_profile.specs.declared.routines.RoutineMisses.{RoutineMisses}
 use Rattle.cache_profile.specs.ByRoutine.{LineAccess, by_routine}
-use Rattle.cache_profile.specs.Private.Added.{AreOf, plus, with_routine}
-use Rattle.cache_profile.proofs.Groups.{added_first, counts, entries_rise, entries_with}
+use Rattle.cache_profile.specs.Private.Added.{plus, with_routine}
+use Rattle.cache_profile.proofs.Groups.{AreOf, added_first, counts, entries_rise, entries_with}
 
 -- a routine that is there
 pub there_already : (bs : List (List RoutineMisses)) (x b at : ℕ) → IsRising (map (λ r. r.entry) (joined bs)) → IsPlaceOf (λ r. r.entry) bs x b at → joined bs ≡ with_routine x (joined bs)
