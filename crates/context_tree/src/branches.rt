@@ -86,7 +86,7 @@ fn begin(
     links.reserve(1)?;
     let number = numbers.number_of(above, entry)?;
     if points.len() < numbers.len() {
-        let _ = points.push(ContextPoints::new(alloc));
+        points.push(ContextPoints::new(alloc)).unwrap();
         add_link(links, above);
     }
     Ok(number)
@@ -261,7 +261,7 @@ impl Branches {
             0,
             entry,
         )?;
-        let _ = self.threads.insert(tid, number);
+        self.threads.insert(tid, number).unwrap();
         Ok(())
     }
 

@@ -12,8 +12,8 @@ use std::alloc::Global;
 use std::marker::Model;
 
 /// The contexts of a run, by number, in order of their first begin. The one with no entry has the number 0. Contracts see for
-/// each other one the number of the context right above it and its last entry. Looking one up, and adding one, takes a time
-/// that does not grow with them.
+/// each other one the number of the context right above it and its last entry. Looking one up, and adding one, takes
+/// constant time on average.
 #[derive(Drop)]
 pub struct ContextNumbers {
     places: IndexSet<(u32, Addr)>,

@@ -49,7 +49,7 @@ pub(crate) fn add_link(links: &mut Vec<Links>, above: u32)
         None => links[above as usize].first_child = Some(number),
     }
     links[above as usize].last_child = Some(number);
-    let _ = links.push(Links::new(place.depth + 1));
+    links.push(Links::new(place.depth + 1)).unwrap();
 }
 
 /// The first context in the order of the text that comes after the one of the number `from` and all that are under it.

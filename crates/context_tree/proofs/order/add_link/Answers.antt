@@ -22,6 +22,14 @@ overflow_add-place c =
     in
     omega (arith, ap (λ (x : Links). x.depth) here, depth_le l.places c.args.links.now.items l.now c.args.above c.args.above (omega arith) l.within, l.within, l.now.long, c.requires.few)
 
+pub unwrap-requires : goal.unwrap-requires
+unwrap-requires c =
+    let spare : vec_len c.match-place.links < vec_capacity c.match-place.links = elim c.match-place.branch [
+      | in-Some w ↦ subst (λ (v : Vec Links Global). vec_len v < vec_capacity v) (sym w.links-is) c.requires.spare
+      | in-None w ↦ subst (λ (v : Vec Links Global). vec_len v < vec_capacity v) (sym w.links-is) c.requires.spare
+    ] in
+    c.push.ensures.succeeds spare
+
 pub returns : goal.returns
 returns c = λ places entry linked within.
     let inside : c.args.above < length c.args.links.now.items = omega (arith, within, linked.long) in
