@@ -18,6 +18,9 @@ WIDE = 112
 WITH_CALLEES, ITS_OWN, GREATEST_COST = "WITH\nCALLEES", "ITS\nOWN", "GREATEST\nCOST"
 """Headings. A percentage is of all instructions, with what the routine calls, where nothing else is said."""
 
+MUCH = 0.25
+"""From this part on it is said that another thread wrote the input of a routine."""
+
 NAMED = 3
 """So many of the marked routines that are left out are named."""
 
@@ -53,7 +56,7 @@ def summary(profile: Profile, rows: Sequence[Row], choice: Choice, room: int) ->
     lines += legend(signs_of([*listed, *marked_of(sure_of(folded))[:NAMED], *marked_of(hidden)[:NAMED]]))
     lines += folded_lines(folded, room) if folded else []
     lines += hidden_lines(hidden, choice, room) if hidden else []
-    return lines + nameless_lines(profile, listed)
+    return lines + writers_lines(listed, choice.by) + nameless_lines(profile, listed)
 
 
 def with_causes(lines: Sequence[str], rows: Sequence[Row], room: int) -> list[str]:
@@ -190,6 +193,18 @@ def marked_lines(rows: Sequence[Row], where: str, ways: str, room: int) -> list[
     names = [f"{cut(row.routine.label, 30)} {marked(row.growth, row.many).strip()}" for row in found[:NAMED]]
     names += [f"{len(found) - NAMED} more"] * (len(found) > NAMED)
     return wrapped(f"marked {where}: {', '.join(names)} ({ways})", room)
+
+
+def writers_lines(rows: Sequence[Row], by: str | None) -> list[str]:
+    """The first routine that reads much of what another thread wrote, where no column has that part."""
+    if by in WRITERS:
+        return []
+    for row in rows:
+        part = written_part(row.routine, "thread", 0.0)
+        if part >= MUCH:
+            name = cut(row.routine.label, 40)
+            return [f"another thread wrote {percent(part)} of the input of {name}: --by thread shows this part"]
+    return []
 
 
 def nameless_lines(profile: Profile, listed: Sequence[Row]) -> list[str]:

@@ -9,6 +9,7 @@ from aprof_show.library import musl_names
 from aprof_show.model import Profile
 from aprof_show.rows import Row, ordered, rows_of
 from aprof_show.table import Choice, projected, summary
+from tests.profiles import sample
 from tests.samples import Call, Run, report_of, stored
 
 SIZES = (8, 16, 32, 64, 128)
@@ -70,6 +71,12 @@ class Listed(unittest.TestCase):
         self.assertEqual([row.routine.label for row in rows if Choice(least=0.01).has(row)], ["main"])
         self.assertEqual(len([row for row in rows if Choice(all=True).has(row)]), 3)
         self.assertIn("and 1 routine of at most 0.0% with callees: --all", summary(profile, rows, Choice(), 80))
+
+    def test_input_of_another_thread_is_told(self) -> None:
+        told = "another thread wrote 70.0% of the input of square_block: --by thread shows this part"
+        profile = sample()
+        self.assertIn(told, summary(profile, rows_of(profile), Choice(all=True), 80))
+        self.assertNotIn(told, summary(profile, rows_of(profile), Choice(all=True, by="thread"), 80))
 
     def test_projected(self) -> None:
         row = row_of(profile_of({"square": lambda n: n * n}), "square")
