@@ -36,6 +36,6 @@ pub record HasReplayed (most : ℕ) (g : Going) (bytes : List ℕ) : Type 0 wher
   pub profile : IsProfileOf most HoldsPoints g.profile (cut (is_within most) past)
   pub whole : g.whole ≡ is_within most past
 
--- Nothing that was read of the bytes is refused: nothing fails in them, or memory failed for a whole record that may come there.
+-- The bytes were read, or as much of them as comes before a record for which memory failed, and nothing in them is refused.
 abbrev pub IsBeforeRefusal : ReaderState → List ℕ → Type 0
-IsBeforeRefusal s bytes = (s.refusal ≡ None) ⊎ ((past : List Event) × HasNext s bytes past)
+IsBeforeRefusal s bytes = (past : List Event) × ((HasRead s bytes past × (s.refusal ≡ None)) ⊎ HasNext s bytes past)

@@ -1,4 +1,4 @@
-use Rattle.std.proofs.Common.{inr, ◌≡◌, List, ◌++◌, append_assoc, ap, subst, sym, ◌∙◌}
+use Rattle.std.proofs.Common.{inl, inr, ◌≡◌, List, ◌++◌, append_assoc, ap, subst, sym, ◌∙◌}
 use Rattle.std.proofs.lemmas.Result.{err_from_is_err_and}
 use Rattle.trace_file.specs.declared.errors.TraceError.TheVariants.{Memory}
 use Rattle.trace_file.specs.Reading.{HasReadBy, IsTraceRefused}
@@ -33,7 +33,13 @@ returns-in_err-feed-clause-memory g c = λ bytes has going told.
     let none = ap (λ (k : Going). k.reader.refusal) c.self.view_is ∙ going in
     let memory : c.in_err-feed.field-0.0 ≡ Memory = cc (p.1, p.2, told) in
     let wants = c.in_err-feed.ensures.memory none memory in
-    inr (past_after was.past wants.more, wants.next bytes was.past was.read)
+    (past_after was.past wants.more, inr (wants.next bytes was.past was.read))
+
+pub returns-in_err-feed-2-clause-memory : goal.returns-in_err-feed-2-clause-memory
+returns-in_err-feed-2-clause-memory g c = λ bytes has going told.
+    let was = subst (λ (k : Going). HasReplayed g.S.Stamp.MAX k bytes) (sym c.self.view_is) has in
+    let fed = c.in_ok-feed.ensures.fed in
+    (past_after was.past fed.more, inl (fed.read bytes was.past was.read, c.in_ok-feed.ensures.answer))
 
 -- the events of the piece, and that they may come
 pub feed-requires-then-self : goal.feed-requires-then-self
