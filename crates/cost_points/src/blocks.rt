@@ -78,7 +78,8 @@ pub(crate) fn search<T: Keyed>(blocks: &[Vec<T>], key: u64) -> Result<Place, Pla
     }
 }
 
-/// The same, with a look at the place where a key was found last. It becomes the place where this one is found.
+/// Where the key stands, or where it would go. The place where a key was found last is tried first; it becomes the place where
+/// this one is found.
 #[inline(always)]
 pub fn find<T: Keyed>(blocks: &[Vec<T>], last: &mut Place, key: u64) -> Result<Place, Place>
     requires filled { IsFilled (map (λ b. b.items) blocks.now) }

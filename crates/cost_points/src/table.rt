@@ -63,6 +63,8 @@ impl Table {
         requires parts { HasParts ended }
         ensures ok { (added : List Done) → self.old ≡ contents_of added
             → OnOk result (self.new ≡ contents_of (added ++ ended ∷ [])) }
+        ensures routines { OnOk result (self.new.routines
+            ≡ with_point ended.entry (point_of ended.size (ended ∷ [])) self.old.routines) }
         ensures members { OnOk result (self.new.members ≡ self.old.members + 1) }
         ensures err { OnErr result (self.new ≡ self.old) }
         ensures no_allocation { (at place : ℕ) (r : Routine) → slice_get self.old.routines at ≡ Some r
@@ -79,6 +81,8 @@ impl Table {
         requires parts { HasParts ended.now }
         ensures ok { (added : List Done) → self.old ≡ contents_of added
             → OnOk result (self.new ≡ contents_of (added ++ ended.now ∷ [])) }
+        ensures routines { OnOk result (self.new.routines
+            ≡ with_point ended.now.entry (point_of ended.now.size (ended.now ∷ [])) self.old.routines) }
         ensures members { OnOk result (self.new.members ≡ self.old.members + 1) }
         ensures err { OnErr result (self.new ≡ self.old) }
         ensures no_allocation { (at place : ℕ) (r : Routine) → slice_get self.old.routines at ≡ Some r

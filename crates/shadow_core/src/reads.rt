@@ -277,7 +277,7 @@ fn read_one<S: Lanes>(
     read_at(threads, tid, w, access, writes, marks, stamp)
 }
 
-/// Whether the thread has accessed the word since the counter last moved. Then a read of it changes no stamp and no sum.
+/// Whether the thread has accessed the word since the counter last moved.
 #[inline(always)]
 pub(crate) fn is_fresh<S: Lanes>(threads: &Threads<S>, tid: Tid, w: Word, counter: u32) -> bool
     requires lives { is_some (value_of threads.now.threads tid) ≡ true }

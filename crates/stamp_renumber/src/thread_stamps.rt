@@ -30,7 +30,7 @@ pub struct EndedCall {
     pub counts: ThreadCounts,
 }
 
-/// What a return ends: one call, which then has ended, or several, which are still open.
+/// What a return ends: one call, which then has ended, or another number of calls, none or several, which are still open.
 #[derive(Clone, Copy)]
 pub enum Returned {
     One(EndedCall),
@@ -158,8 +158,8 @@ impl<S: Stamp> ThreadStamps<S> {
         self.frames.add(i, by);
     }
 
-    /// Reads a word, whose page is at the place: it gets the stamp, and the sums of the frames move by those that began before its
-    /// access and those that began after it.
+    /// A read of a word whose page is at the place: the word gets the stamp, and the sums of the frames move as after a last
+    /// access at `own`, which the caller gives.
     #[inline(always)]
     pub(crate) fn read_word(
         &mut self,

@@ -186,8 +186,8 @@ impl<S: Lanes> Threads<S> {
         self.threads.get_mut(tid).unwrap().add(i, by);
     }
 
-    /// Reads a word in the thread, whose page is at the place: it gets the stamp, and the sums of the thread's frames move, by its
-    /// old stamp, `own`. The thread is looked up once.
+    /// A read by the thread of a word whose page is at the place: the word gets the stamp, and the sums of the thread's frames
+    /// move as after a last access at `own`, which the caller gives: the word's stamp so far. The thread is looked up once.
     #[inline(always)]
     pub fn read_word(
         &mut self,

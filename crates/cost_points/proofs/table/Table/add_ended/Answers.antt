@@ -39,3 +39,7 @@ returns-clause-ok c = λ added is.
     contents-more c.args.ended.now.entry p c.args.self.now _ added (c.args.ended.now ∷ []) (are_one c.args.ended.now p refl) is
     (c.in_ok-add_one.ensures.ok ∙ ap (λ (t : TableContents). with_point c.args.ended.now.entry p t.routines) c.self.view_is)
     (ap (λ (t : TableContents). t.members + 1) c.self.view_is)
+
+pub returns-clause-routines : goal.returns-clause-routines
+returns-clause-routines c =
+    c.in_ok-add_one.ensures.ok ∙ ap (λ (t : TableContents). with_point c.args.ended.now.entry (point_of c.args.ended.now.size (c.args.ended.now ∷ [])) t.routines) c.self.view_is
