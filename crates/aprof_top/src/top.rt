@@ -126,10 +126,10 @@ fn answer<F: Files, O: Sink, E: Sink>(
 ///
 /// The status says how the call ended. Every status but 2, 4 and 10 is the outcome's: all of its output was put and all of its
 /// files were stored. At 2 the load of the next file failed, and only the last text was put. At 4 a store, or a put of the
-/// output or of the line of `--stats`, failed, and what came before is a first part of the outcome. At 10 memory ran out, and no
-/// load, store or put had failed, unless it was the last text of another status that could not be allocated; then the last text
-/// of out of memory was put on `err`, unless a put on `err` had failed or that put ran out of memory too. If nothing failed and
-/// no file was too long, the status is the outcome's, or 10.
+/// output or of the line of `--stats`, failed, and what came before is a first part of the outcome. At 10 memory ran out, and
+/// no load, store or put had failed, unless it was the last text of another status that could not be allocated; then the last
+/// text of out of memory was put on `err`, unless a put on `err` had failed or that put ran out of memory too. If nothing
+/// failed and no file was too long, the status is the outcome's, or 10.
 pub fn aprof<F: Files, O: Sink, E: Sink>(
     alloc: Global,
     words: &[String],
