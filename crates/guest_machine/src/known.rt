@@ -4,6 +4,7 @@ ghost use Rattle.guest_memory.specs.Code.{IsInstructionAt};
 ghost use Rattle.guest_memory.specs.Guest.{memory_of};
 ghost use Rattle.guest_memory.specs.declared.reservations.Reservations.{Reservations};
 ghost use Rattle.rv_exec.specs.Effects.{exec_state_of};
+ghost use Rattle.rv_exec.specs.Registers.{with_pc};
 ghost use Rattle.guest_machine.specs.Private.Carrying.{IsReadingOf, IsStateOf, IsStepOf};
 ghost use Rattle.guest_machine.specs.Machine.{MachineState};
 ghost use Rattle.guest_machine.specs.Told.{IsInstruction};
@@ -86,17 +87,24 @@ pub(crate) enum Reading {
     Stops,
 }
 
-// Carries out the instruction at the pc if it can't write, is not ECALL and does not fault; else nothing changes.
+// Carries out the instruction at `pc`, which stands in place of that in `cpu`, if it can't write, is not ECALL and does not
+// fault; else nothing changes.
 #[inline(always)]
-pub(crate) fn carry_out_reading(cpu: &mut Cpu, memory: &GuestMemory, instruction: &Instr) -> Reading
-    requires { IsInstructionAt (memory_of memory.now) cpu.old.pc instruction.now }
-    ensures { (tid : ℕ) (held : Reservations) → IsReadingOf (exec_state_of cpu.old memory.now held)
-        (exec_state_of cpu.new memory.now held) tid result }
+pub(crate) fn carry_out_reading(
+    pc: &mut Addr,
+    cpu: &mut Cpu,
+    memory: &GuestMemory,
+    instruction: &Instr,
+) -> Reading
+    requires { IsInstructionAt (memory_of memory.now) pc.old instruction.now }
+    ensures { (tid : ℕ) (held : Reservations)
+        → IsReadingOf (exec_state_of (with_pc pc.old cpu.old) memory.now held)
+        (exec_state_of (with_pc pc.new cpu.new) memory.now held) tid result }
 {
-    let pc = cpu.pc;
-    match execute_reading(cpu, memory, *instruction) {
+    let at = *pc;
+    match execute_reading(pc, cpu, memory, *instruction) {
         Some(Outcome::Went { access }) => Reading::Went {
-            advanced: told(instruction, access, cpu.pc, pc.wrapping_add(4)),
+            advanced: told(instruction, access, *pc, at.wrapping_add(4)),
         },
         Some(Outcome::Fault { .. }) => Reading::Stops,
         Some(Outcome::Syscall) => Reading::Stops,

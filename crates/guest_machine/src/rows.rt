@@ -3,6 +3,7 @@ ghost use Rattle.std.specs.Prelude.{◌≡◌, ◌≤◌, ◌<◌, ◌+◌, ◌^
 ghost use Rattle.guest_memory.specs.Code.{IsCodeOf};
 ghost use Rattle.guest_memory.specs.Guest.{memory_of};
 ghost use Rattle.rv_exec.specs.Effects.{exec_state_of};
+ghost use Rattle.rv_exec.specs.Registers.{with_pc};
 ghost use Rattle.trace_model.specs.declared.observer.Observed.TheVariants.{Taken};
 ghost use Rattle.trace_model.specs.Observing.{MayTakeAll, ObservesAll};
 ghost use Rattle.guest_machine.specs.Private.Carrying.{Carries, IsStateOf, MayCarry, ObservesFrom};
@@ -14,7 +15,7 @@ use crate::Advanced;
 use crate::known::{Reading, carry_out, carry_out_next, carry_out_reading};
 use crate::telling::observe_told;
 use guest_memory::{CodePage, GuestMemory, Reservations};
-use guest_words::Tid;
+use guest_words::{Addr, Tid};
 use rv_exec::Cpu;
 use rv_isa::Instr;
 use std::alloc::AllocError;
@@ -79,7 +80,53 @@ enum Paused {
     Stops,
 }
 
-// Makes the steps of a row that lie in a page of code, as long as they can't write.
+// Makes the steps of a row that lie in a page of code, as long as they can't write. The thread's program counter is `pc`, apart
+// from its registers, so that the compiler keeps it in a register.
+#[inline(always)]
+fn run_page_from<W: Observer>(
+    pc: &mut Addr,
+    cpu: &mut Cpu,
+    memory: &GuestMemory,
+    held: &Reservations,
+    tid: Tid,
+    page: &CodePage,
+    row: &mut StepRow,
+    observer: &mut W,
+) -> Result<Paused, AllocError>
+    requires page { IsCodeOf (memory_of memory.now) page.now }
+    requires run { MayRun W.stands (W.fits observer.old) tid row.old
+        (exec_state_of (with_pc pc.old cpu.old) memory.now held.now) observer.old }
+    requires range { row.old.told + row.old.left < 2 ^ 64 }
+    ensures runs { RunsOn W.stands (W.fits observer.old) tid
+        row.old (exec_state_of (with_pc pc.old cpu.old) memory.now held.now) observer.old
+        row.new (exec_state_of (with_pc pc.new cpu.new) memory.now held.now) observer.new
+        (answer_of result) }
+    ensures next { IfOk result (IsPaused (memory_of memory.now) pc.new row.new) }
+    ensures grows { row.old.told + row.old.plain ≤ row.new.told + row.new.plain }
+    ensures same { W.fits observer.new ≡ W.fits observer.old }
+{
+    'steps: while row.plain < row.left {
+        let Some(instruction) = page.find(*pc) else {
+            return Ok(Paused::Elsewhere);
+        };
+        let advanced = match carry_out_reading(pc, cpu, memory, &instruction) {
+            Reading::Went { advanced } => advanced,
+            Reading::MayWrite => return Ok(Paused::MayWrite { instruction }),
+            Reading::Stops => return Ok(Paused::Stops),
+        };
+        match advanced {
+            Advanced::Ran => row.plain += 1,
+            acted => match hand_step(row, tid, acted, observer) {
+                Ok(Observed::Taken) => {}
+                Ok(Observed::Refused) => return Ok(Paused::Refused),
+                Err(e) => return Err(e),
+            },
+        }
+    }
+    Ok(Paused::Done)
+}
+
+// The same, of a thread whose program counter is in `cpu`.
 #[inline(always)]
 fn run_page<W: Observer>(
     cpu: &mut Cpu,
@@ -101,25 +148,10 @@ fn run_page<W: Observer>(
     ensures grows { row.old.told + row.old.plain ≤ row.new.told + row.new.plain }
     ensures same { W.fits observer.new ≡ W.fits observer.old }
 {
-    'steps: while row.plain < row.left {
-        let Some(instruction) = page.find(cpu.pc) else {
-            return Ok(Paused::Elsewhere);
-        };
-        let advanced = match carry_out_reading(cpu, memory, &instruction) {
-            Reading::Went { advanced } => advanced,
-            Reading::MayWrite => return Ok(Paused::MayWrite { instruction }),
-            Reading::Stops => return Ok(Paused::Stops),
-        };
-        match advanced {
-            Advanced::Ran => row.plain += 1,
-            acted => match hand_step(row, tid, acted, observer) {
-                Ok(Observed::Taken) => {}
-                Ok(Observed::Refused) => return Ok(Paused::Refused),
-                Err(e) => return Err(e),
-            },
-        }
-    }
-    Ok(Paused::Done)
+    let mut pc = cpu.pc;
+    let answer = run_page_from(&mut pc, cpu, memory, held, tid, page, row, observer);
+    cpu.pc = pc;
+    answer
 }
 
 // Whether a row of steps goes on.

@@ -1,6 +1,5 @@
 //! The registers of a thread.
-use crate::outcome::Outcome;
-use guest_words::{Addr, FaultKind};
+use guest_words::Addr;
 use rv_isa::Reg;
 use std::marker::Model;
 
@@ -26,7 +25,7 @@ impl Model for Cpu {
 
 impl Cpu {
     ghost use Rattle.std.specs.Prelude.{◌≡◌, replicate};
-    ghost use Rattle.rv_exec.specs.Effects.{advanced, computed, jumped, linked, passed, put, value, written};
+    ghost use Rattle.rv_exec.specs.Effects.{advanced, put, value, written};
 
     /// All registers hold 0.
     pub fn new(pc: Addr) -> Cpu
@@ -63,15 +62,6 @@ impl Cpu {
         self.pc = self.pc.wrapping_add(4);
     }
 
-    /// Goes on behind the instruction, which touched no memory.
-    #[inline(always)]
-    pub(crate) fn pass(&mut self) -> Outcome
-        ensures { (result, self.new) ≡ passed self.old }
-    {
-        self.advance();
-        Outcome::WENT
-    }
-
     /// Writes to a register, and goes on behind the instruction.
     #[inline(always)]
     pub(crate) fn put(&mut self, rd: Reg, n: u32)
@@ -79,43 +69,5 @@ impl Cpu {
     {
         self.write(rd, n);
         self.advance();
-    }
-
-    /// Writes what an instruction computed.
-    #[inline(always)]
-    pub(crate) fn compute(&mut self, rd: Reg, n: u32) -> Outcome
-        ensures { (result, self.new) ≡ computed rd n self.old }
-    {
-        self.put(rd, n);
-        Outcome::WENT
-    }
-
-    /// Goes to a target, where that is a multiple of 4.
-    #[inline(always)]
-    pub(crate) fn jump(&mut self, target: Addr) -> Outcome
-        ensures { (result, self.new) ≡ jumped target self.old.regs self.old }
-    {
-        if target % 4 != 0 {
-            return Outcome::Fault {
-                kind: FaultKind::JumpAlign,
-            };
-        }
-        self.pc = target;
-        Outcome::WENT
-    }
-
-    /// Goes to a target, where that is a multiple of 4, and leaves the way back in a register.
-    #[inline(always)]
-    pub(crate) fn jump_and_link(&mut self, rd: Reg, target: Addr) -> Outcome
-        ensures { (result, self.new) ≡ linked rd target self.old }
-    {
-        if target % 4 != 0 {
-            return Outcome::Fault {
-                kind: FaultKind::JumpAlign,
-            };
-        }
-        self.write(rd, self.pc.wrapping_add(4));
-        self.pc = target;
-        Outcome::WENT
     }
 }

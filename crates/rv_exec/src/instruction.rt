@@ -1,11 +1,14 @@
 //! One instruction of a thread.
-ghost use Rattle.std.specs.Prelude.{◌≡◌, ◌-◌, IfSome, IfNone, is_none};
+ghost use Rattle.std.specs.Prelude.{◌≡◌, ◌+◌, ◌-◌, ◌%◌, ◌^◌, IfSome, IfNone, is_none};
 ghost use Rattle.guest_memory.specs.Guest.{memory_of};
 ghost use Rattle.guest_memory.specs.Reserved.{HoldAtMost, without_thread};
 ghost use Rattle.guest_memory.specs.ReservedBy.{reserved_by};
-ghost use Rattle.rv_exec.specs.Effects.{branched, effect, exec_state_of, value};
+ghost use Rattle.rv_exec.specs.Effects.{branched, computed, effect, exec_state_of, jumped, linked, value};
+ghost use Rattle.rv_exec.specs.declared.outcome.Access.TheVariants as access;
+ghost use Rattle.rv_exec.specs.declared.outcome.Outcome.TheVariants.{Went};
 ghost use Rattle.rv_exec.specs.Operations.{is_taken, add_offset};
 ghost use Rattle.rv_exec.specs.Reading.{CarriesOut, may_write};
+ghost use Rattle.rv_exec.specs.Registers.{Registers, with_pc};
 
 use crate::atomics::{Operands, atomic};
 use crate::loads_and_stores::{load, store};
@@ -13,7 +16,7 @@ use crate::operations::{add_offset, immediate_result, is_taken, register_result}
 use crate::{Cpu, Outcome};
 use guest_memory::{GuestMemory, Reservations};
 use guest_words::limits::THREADS;
-use guest_words::{FaultKind, Tid};
+use guest_words::{Addr, FaultKind, Tid};
 use rv_isa::{Instr, Reg, Test};
 
 /// Carries out an instruction of the thread. Fewer than `THREADS` other threads have a reservation.
@@ -50,20 +53,28 @@ pub fn execute(
             atomic(cpu, memory, held, tid, op, Operands { rd, at, n })
         }
         _ => {
-            let Some(outcome) = execute_reading(cpu, memory, i) else {
+            let mut pc = cpu.pc;
+            let Some(outcome) = execute_reading(&mut pc, cpu, memory, i) else {
                 unreachable!();
             };
+            cpu.pc = pc;
             outcome
         }
     }
 }
 
-/// Carries out an instruction that does not write to memory. None, and nothing changes, where it may write.
+/// Carries out an instruction that does not write to memory, of a thread whose program counter is `pc`: that in `cpu` is not
+/// looked at, and stays. None, and nothing changes, where the instruction may write.
 #[inline(always)]
-pub fn execute_reading(cpu: &mut Cpu, memory: &GuestMemory, i: Instr) -> Option<Outcome>
-    ensures effect { IfSome result (λ outcome. CarriesOut i (memory_of memory.now) cpu.old
-        outcome cpu.new) }
-    ensures none { IfNone result (cpu.new ≡ cpu.old) }
+pub fn execute_reading(
+    pc: &mut Addr,
+    cpu: &mut Cpu,
+    memory: &GuestMemory,
+    i: Instr,
+) -> Option<Outcome>
+    ensures effect { IfSome result (λ outcome. CarriesOut i (memory_of memory.now) (with_pc pc.old cpu.old)
+        outcome (with_pc pc.new cpu.new)) }
+    ensures none { IfNone result (with_pc pc.new cpu.new ≡ with_pc pc.old cpu.old) }
     ensures writes { is_none result ≡ may_write i }
 {
     match i {
@@ -75,24 +86,30 @@ pub fn execute_reading(cpu: &mut Cpu, memory: &GuestMemory, i: Instr) -> Option<
             offset,
         } => {
             let at = add_offset(cpu.value(base), offset);
-            Some(load(cpu, memory, kind, rd, at))
+            Some(load(pc, cpu, memory, kind, rd, at))
         }
-        Instr::Lui { rd, imm } => Some(cpu.compute(rd, imm << 12)),
-        Instr::Auipc { rd, imm } => Some(cpu.compute(rd, cpu.pc.wrapping_add(imm << 12))),
-        Instr::Jal { rd, offset } => Some(cpu.jump_and_link(rd, add_offset(cpu.pc, offset))),
+        Instr::Lui { rd, imm } => Some(compute(pc, cpu, rd, imm << 12)),
+        Instr::Auipc { rd, imm } => {
+            let n = pc.wrapping_add(imm << 12);
+            Some(compute(pc, cpu, rd, n))
+        }
+        Instr::Jal { rd, offset } => {
+            let target = add_offset(*pc, offset);
+            Some(jump_and_link(pc, cpu, rd, target))
+        }
         Instr::Jalr { rd, base, offset } => {
             let target = add_offset(cpu.value(base), offset);
-            Some(cpu.jump_and_link(rd, target / 2 * 2))
+            Some(jump_and_link(pc, cpu, rd, target / 2 * 2))
         }
         Instr::Branch {
             test,
             left,
             right,
             offset,
-        } => Some(branch(cpu, test, left, right, offset)),
+        } => Some(branch(pc, cpu, test, left, right, offset)),
         Instr::Immediate { op, rd, left, imm } => {
             let n = immediate_result(op, cpu.value(left), imm);
-            Some(cpu.compute(rd, n))
+            Some(compute(pc, cpu, rd, n))
         }
         Instr::Register {
             op,
@@ -101,9 +118,9 @@ pub fn execute_reading(cpu: &mut Cpu, memory: &GuestMemory, i: Instr) -> Option<
             right,
         } => {
             let n = register_result(op, cpu.value(left), cpu.value(right));
-            Some(cpu.compute(rd, n))
+            Some(compute(pc, cpu, rd, n))
         }
-        Instr::Fence | Instr::FenceI => Some(cpu.pass()),
+        Instr::Fence | Instr::FenceI => Some(pass(pc)),
         Instr::Ecall => Some(Outcome::Syscall),
         Instr::Ebreak => Some(Outcome::Fault {
             kind: FaultKind::Break,
@@ -111,16 +128,65 @@ pub fn execute_reading(cpu: &mut Cpu, memory: &GuestMemory, i: Instr) -> Option<
     }
 }
 
+// Goes on behind an instruction that touched no register and no memory.
+#[inline(always)]
+fn pass(pc: &mut Addr) -> Outcome
+    ensures went { result ≡ Went access.Nothing }
+    ensures pc { pc.new ≡ (pc.old + 4) % 2 ^ 32 }
+{
+    *pc = pc.wrapping_add(4);
+    Outcome::WENT
+}
+
+// Writes what an instruction computed, and goes on behind it.
+#[inline(always)]
+fn compute(pc: &mut Addr, cpu: &mut Cpu, rd: Reg, n: u32) -> Outcome
+    ensures { (result, with_pc pc.new cpu.new) ≡ computed rd n (with_pc pc.old cpu.old) }
+{
+    cpu.write(rd, n);
+    pass(pc)
+}
+
+// Goes to a target, where that is a multiple of 4.
+#[inline(always)]
+fn jump(pc: &mut Addr, target: Addr) -> Outcome
+    ensures { (r : Registers) → (result, with_pc pc.new r) ≡ jumped target r.regs (with_pc pc.old r) }
+{
+    if target % 4 != 0 {
+        return Outcome::Fault {
+            kind: FaultKind::JumpAlign,
+        };
+    }
+    *pc = target;
+    Outcome::WENT
+}
+
+// Goes to a target, where that is a multiple of 4, and leaves the way back in a register.
+#[inline(always)]
+fn jump_and_link(pc: &mut Addr, cpu: &mut Cpu, rd: Reg, target: Addr) -> Outcome
+    ensures { (result, with_pc pc.new cpu.new) ≡ linked rd target (with_pc pc.old cpu.old) }
+{
+    if target % 4 != 0 {
+        return Outcome::Fault {
+            kind: FaultKind::JumpAlign,
+        };
+    }
+    cpu.write(rd, pc.wrapping_add(4));
+    *pc = target;
+    Outcome::WENT
+}
+
 // A branch, which goes to a target where the test holds.
 #[inline(always)]
-fn branch(cpu: &mut Cpu, test: Test, left: Reg, right: Reg, offset: i32) -> Outcome
-    ensures { (result, cpu.new) ≡ branched
-        (is_taken test (value cpu.old left) (value cpu.old right))
-        (add_offset cpu.old.pc offset) cpu.old }
+fn branch(pc: &mut Addr, cpu: &Cpu, test: Test, left: Reg, right: Reg, offset: i32) -> Outcome
+    ensures { (result, with_pc pc.new cpu.now) ≡ branched
+        (is_taken test (value cpu.now left) (value cpu.now right))
+        (add_offset pc.old offset) (with_pc pc.old cpu.now) }
 {
     if is_taken(test, cpu.value(left), cpu.value(right)) {
-        cpu.jump(add_offset(cpu.pc, offset))
+        let target = add_offset(*pc, offset);
+        jump(pc, target)
     } else {
-        cpu.pass()
+        pass(pc)
     }
 }

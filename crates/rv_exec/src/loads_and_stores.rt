@@ -8,8 +8,9 @@ ghost use Rattle.guest_memory.specs.ReservedBy.{reserved_by};
 ghost use Rattle.guest_words.specs.Words.{word_count};
 ghost use Rattle.guest_words.specs.declared.endings.FaultKind.TheVariants as fault;
 ghost use Rattle.rv_exec.specs.Accesses.{can_read, can_write, load_size, extended, low_bytes, store_size};
-ghost use Rattle.rv_exec.specs.Effects.{exec_state_of, loads, put, stores};
+ghost use Rattle.rv_exec.specs.Effects.{exec_state_of, loads, stores, written};
 ghost use Rattle.rv_exec.specs.Operations.{low_32_bits};
+ghost use Rattle.rv_exec.specs.Registers.{with_pc};
 
 use crate::bytes::{read, words, write};
 use crate::{Access, Cpu, Outcome};
@@ -68,11 +69,20 @@ fn store_size(kind: StoreKind) -> Size
 
 /// A load. Its code is short, so that it is inlined in the machine's loop: `load_number` stands apart and answers in a register.
 #[inline(always)]
-pub fn load(cpu: &mut Cpu, memory: &GuestMemory, kind: LoadKind, rd: Reg, at: Addr) -> Outcome
-    ensures { (result, cpu.new) ≡ loads kind rd at (memory_of memory.now) cpu.old }
+pub fn load(
+    pc: &mut Addr,
+    cpu: &mut Cpu,
+    memory: &GuestMemory,
+    kind: LoadKind,
+    rd: Reg,
+    at: Addr,
+) -> Outcome
+    ensures { (result, with_pc pc.new cpu.new)
+        ≡ loads kind rd at (memory_of memory.now) (with_pc pc.old cpu.old) }
 {
     match load_number(cpu, memory, kind, rd, at) {
         Ok(()) => {
+            *pc = pc.wrapping_add(4);
             let (first, count) = words(at, load_size(kind));
             Outcome::Went {
                 access: Access::Read { first, count },
@@ -82,7 +92,7 @@ pub fn load(cpu: &mut Cpu, memory: &GuestMemory, kind: LoadKind, rd: Reg, at: Ad
     }
 }
 
-// What a load does to the registers. It stands apart from the other instructions.
+// What a load does to the registers x0 to x31. It stands apart from the other instructions.
 #[inline(never)]
 fn load_number(
     cpu: &mut Cpu,
@@ -93,8 +103,10 @@ fn load_number(
 ) -> Result<(), FaultKind>
     ensures readable { result ≡ (if can_read (memory_of memory.now) at (byte_count (load_size kind))
         then Ok tt else Err fault.Load) }
-    ensures loaded { IfOk result (λ _. cpu.new ≡ put rd
-        (extended kind (number_at (memory_of memory.now) at (byte_count (load_size kind)))) cpu.old) }
+    ensures loaded { IfOk result (λ _. cpu.new ≡ record cpu.old {
+      regs = written cpu.old rd
+          (extended kind (number_at (memory_of memory.now) at (byte_count (load_size kind))));
+    }) }
     ensures kept { IfErr result (λ _. cpu.new ≡ cpu.old) }
     ensures end { IfOk result (λ _. at + byte_count (load_size kind) ≤ 2 ^ 32) }
 {
@@ -118,15 +130,17 @@ fn load_as(
 ) -> Result<(), FaultKind>
     ensures readable { result ≡ (if can_read (memory_of memory.now) at (byte_count (load_size kind))
         then Ok tt else Err fault.Load) }
-    ensures loaded { IfOk result (λ _. cpu.new ≡ put rd
-        (extended kind (number_at (memory_of memory.now) at (byte_count (load_size kind)))) cpu.old) }
+    ensures loaded { IfOk result (λ _. cpu.new ≡ record cpu.old {
+      regs = written cpu.old rd
+          (extended kind (number_at (memory_of memory.now) at (byte_count (load_size kind))));
+    }) }
     ensures kept { IfErr result (λ _. cpu.new ≡ cpu.old) }
     ensures end { IfOk result (λ _. at + byte_count (load_size kind) ≤ 2 ^ 32) }
 {
     let Some(n) = read(memory, at, load_size(kind)) else {
         return Err(FaultKind::Load);
     };
-    cpu.put(rd, extended(kind, n));
+    cpu.write(rd, extended(kind, n));
     Ok(())
 }
 
