@@ -1,5 +1,5 @@
 -- Refusals and numbers over several bytes.
-use Rattle.std.proofs.Common.{◌≡◌, ℕ, zero, suc, ◌+◌, ◌-◌, ◌*◌, ◌<◌, ◌≤◌, ◌/◌, ◌%◌, Bool, true, false, cond, List, [], ◌∷◌, length, take, drop, get_or-take, Option, Some, None, Ok, Err, arith, refl, ap, ap₂, sym, ◌∙◌, subst}
+use Rattle.std.proofs.Common.{◌≡◌, ℕ, zero, suc, ◌+◌, ◌-◌, ◌*◌, ◌<◌, ◌≤◌, ◌/◌, ◌%◌, Bool, true, false, cond, List, [], ◌∷◌, length, take, drop, get_or-take, Option, Some, None, Ok, arith, refl, ap, ap₂, sym, ◌∙◌, subst}
 use Rattle.std.specs.Option.{option_or, is_some}
 use Rattle.std.specs.Prelude.{nat_lt}
 use Rattle.std.proofs.lemmas.Bool.Decides.{nat_tests}
@@ -121,12 +121,6 @@ pub loads_within : (d : List (List (Rights × List ℕ))) (permission : Permissi
 loads_within d permission at n range some fits full allowed =
     let free : byte_refusal (memory_in d) permission at ≡ None = refusal_by_rights d permission at range (omega arith) ∙ ap (λ (b : Bool). cond b None (Some (denial permission))) allowed in
     ap₂ (λ (o : Option MemError) (x : ℕ). unless_refused o x) (refusal_within (memory_in d) permission at n free (omega arith)) (sym (number_within d at n fits full))
-
--- a load that the page's rights refuse
-pub loads_refused : (d : List (List (Rights × List ℕ))) (permission : Permission) (at n : ℕ) → at / 4096 < 1048576 → 0 < n → at % 4096 + n ≤ length (page_of d (at / 4096)).1 → allows permission (page_of d (at / 4096)).0 ≡ false → loaded (memory_in d) permission at n ≡ Err (denial permission)
-loads_refused d permission at n range some fits denied =
-    let refused : byte_refusal (memory_in d) permission at ≡ Some (denial permission) = refusal_by_rights d permission at range (omega arith) ∙ ap (λ (b : Bool). cond b None (Some (denial permission))) denied in
-    ap (λ (o : Option MemError). unless_refused o (number_at (memory_in d) at n)) (refusal_head (memory_in d) permission at n (denial permission) refused some)
 
 pub none_of : {T : Type 0} (o : Option T) → is_some o ≡ false → o ≡ None
 none_of None h = refl

@@ -1,5 +1,5 @@
 //! Bytes by address: their permissions, and reads and writes of ranges.
-ghost use Rattle.std.specs.Prelude.{◌≡◌, ◌<◌, ◌≤◌, ◌+◌, ◌^◌, ◌%◌, drop, length, OnOk, OnErr, IfNone};
+ghost use Rattle.std.specs.Prelude.{IfSome, ◌≡◌, ◌<◌, ◌≤◌, ◌+◌, ◌^◌, ◌%◌, drop, length, OnOk, OnErr, IfNone};
 ghost use Rattle.guest_memory.specs.Memory.{AreMapped, byte_refusal, first_refusal, number_at, byte_count, bytes_at, with_bytes, loaded, unless_refused};
 ghost use Rattle.guest_memory.specs.declared.refusal.Permission.TheVariants as permission;
 ghost use Rattle.guest_memory.specs.State.{memory_in};
@@ -62,20 +62,29 @@ impl Directory {
         requires { at < 2 ^ 32 }
         ensures { result ≡ loaded (memory_in self.now) permission at (byte_count size) }
     {
-        let page = self.page(at >> 12);
-        let start = at as usize % PAGE_SIZE;
-        if start + size.bytes() <= page.1.len() {
-            if permission.is_allowed(page.0) {
-                Ok(number_from(page.1, start, size))
-            } else {
-                Err(permission.denial())
-            }
-        } else {
-            self.loaded_apart(permission, at, size)
+        match self.number_within(permission, at, size) {
+            Some(n) => Ok(n),
+            None => self.loaded_apart(permission, at, size),
         }
     }
 
-    // What a load answers that is not within a mapped page.
+    /// The number that a load of that size answers, where its bytes lie within a page that allows it. Where they don't, None,
+    /// which says nothing of the load.
+    #[inline(always)]
+    pub fn number_within(&self, permission: Permission, at: u64, size: Size) -> Option<u32>
+        requires { at < 2 ^ 32 }
+        ensures { IfSome result (λ n. loaded (memory_in self.now) permission at (byte_count size) ≡ Ok n) }
+    {
+        let page = self.page(at >> 12);
+        let start = at as usize % PAGE_SIZE;
+        if start + size.bytes() <= page.1.len() && permission.is_allowed(page.0) {
+            Some(number_from(page.1, start, size))
+        } else {
+            None
+        }
+    }
+
+    // What any load answers.
     #[cold]
     #[inline(never)]
     fn loaded_apart(&self, permission: Permission, at: u64, size: Size) -> Result<u32, MemError>

@@ -163,6 +163,16 @@ impl GuestMemory {
         }
     }
 
+    /// The number that `load` answers, where the bytes lie within one page and can be read. Where they don't, None, which says
+    /// nothing of the load: its code is shorter than that of `load`.
+    #[inline(always)]
+    pub fn load_within(&self, at: Addr, size: Size) -> Option<u32>
+        ensures { IfSome result (λ n. loaded (memory_of self.now) permission.Read at (byte_count size) ≡ Ok n) }
+    {
+        self.directory
+            .number_within(Permission::Read, u64::from(at), size)
+    }
+
     /// The word of an instruction, where each of its bytes can be run.
     #[inline(always)]
     pub fn fetch(&self, at: Addr) -> Result<u32, MemError>

@@ -1,5 +1,5 @@
 //! Bytes of memory, as an instruction reads and writes them.
-ghost use Rattle.std.specs.Prelude.{◌≡◌, ◌+◌, ◌≤◌, ◌/◌, ◌^◌, IfSome, IfNone, Some, None, if◌then◌else◌};
+ghost use Rattle.std.specs.Prelude.{◌≡◌, ◌+◌, ◌≤◌, ◌/◌, ◌^◌, IfSome, IfNone, Some, None, true, if◌then◌else◌};
 ghost use Rattle.guest_memory.specs.Guest.{memory_of};
 ghost use Rattle.guest_memory.specs.Memory.{byte_count, number_at, with_bytes};
 ghost use Rattle.guest_memory.specs.Reserved.{after_write};
@@ -27,6 +27,16 @@ pub fn read(memory: &GuestMemory, at: Addr, size: Size) -> Option<u32>
     ensures end { IfSome result (λ _. at + byte_count size ≤ 2 ^ 32) }
 {
     memory.load(at, size).ok()
+}
+
+/// The same, where the bytes lie within one page and can be read. Otherwise None, which says nothing of them.
+#[inline(always)]
+pub fn read_within(memory: &GuestMemory, at: Addr, size: Size) -> Option<u32>
+    ensures readable { IfSome result (λ _. can_read (memory_of memory.now) at (byte_count size) ≡ true) }
+    ensures value { IfSome result (λ n. n ≡ number_at (memory_of memory.now) at (byte_count size)) }
+    ensures end { IfSome result (λ _. at + byte_count size ≤ 2 ^ 32) }
+{
+    memory.load_within(at, size)
 }
 
 /// Writes the lowest bytes for the thread, and drops the other threads' reservations on their words, which it gives. None

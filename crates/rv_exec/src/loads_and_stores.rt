@@ -12,7 +12,7 @@ ghost use Rattle.rv_exec.specs.Effects.{exec_state_of, loads, stores, written};
 ghost use Rattle.rv_exec.specs.Operations.{low_32_bits};
 ghost use Rattle.rv_exec.specs.Registers.{with_pc};
 
-use crate::bytes::{read, words, write};
+use crate::bytes::{read, read_within, words, write};
 use crate::{Access, Cpu, Outcome};
 use guest_memory::{GuestMemory, Reservations, Size};
 use guest_words::{Addr, FaultKind, Tid};
@@ -119,7 +119,8 @@ fn load_number(
     }
 }
 
-// The same, whose code is made for the kind that a call names.
+// The same, whose code is made for the kind that a call names. It calls nothing where the bytes lie within a page that can be
+// read, and saves no register then.
 #[inline(always)]
 fn load_as(
     cpu: &mut Cpu,
@@ -130,10 +131,34 @@ fn load_as(
 ) -> Result<(), FaultKind>
     ensures readable { result ≡ (if can_read (memory_of memory.now) at (byte_count (load_size kind))
         then Ok tt else Err fault.Load) }
-    ensures loaded { IfOk result (λ _. cpu.new ≡ record cpu.old {
-      regs = written cpu.old rd
-          (extended kind (number_at (memory_of memory.now) at (byte_count (load_size kind))));
-    }) }
+    ensures loaded { IfOk result (λ _. cpu.new ≡ record cpu.old { regs = written cpu.old rd
+        (extended kind (number_at (memory_of memory.now) at (byte_count (load_size kind)))) }) }
+    ensures kept { IfErr result (λ _. cpu.new ≡ cpu.old) }
+    ensures end { IfOk result (λ _. at + byte_count (load_size kind) ≤ 2 ^ 32) }
+{
+    match read_within(memory, at, load_size(kind)) {
+        Some(n) => {
+            cpu.write(rd, extended(kind, n));
+            Ok(())
+        }
+        None => load_apart(cpu, memory, kind, rd, at),
+    }
+}
+
+// The same, wherever the bytes lie.
+#[cold]
+#[inline(never)]
+fn load_apart(
+    cpu: &mut Cpu,
+    memory: &GuestMemory,
+    kind: LoadKind,
+    rd: Reg,
+    at: Addr,
+) -> Result<(), FaultKind>
+    ensures readable { result ≡ (if can_read (memory_of memory.now) at (byte_count (load_size kind))
+        then Ok tt else Err fault.Load) }
+    ensures loaded { IfOk result (λ _. cpu.new ≡ record cpu.old { regs = written cpu.old rd
+        (extended kind (number_at (memory_of memory.now) at (byte_count (load_size kind)))) }) }
     ensures kept { IfErr result (λ _. cpu.new ≡ cpu.old) }
     ensures end { IfOk result (λ _. at + byte_count (load_size kind) ≤ 2 ^ 32) }
 {
