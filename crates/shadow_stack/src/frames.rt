@@ -113,6 +113,21 @@ impl<S: Stamp> Frames<S> {
         }
     }
 
+    // The place of the innermost frame that started at or before the stamp. The innermost of all, at `top`, started after it; most
+    // often the frame below is the one, so that is tried before a search.
+    #[inline(always)]
+    fn place_below(&self, top: usize, stamp: S) -> Option<usize>
+        requires top { length self.now.list ≡ top + 1 }
+        requires above { S.number_of stamp < slice_index (starts_of self.now.list) top }
+        ensures { IsLastAtMost (starts_of self.now.list) (S.number_of stamp) result }
+    {
+        if top > 0 && self.start_at(top - 1).number() <= stamp.number() {
+            Some(top - 1)
+        } else {
+            last_at_most(self, stamp)
+        }
+    }
+
     /// Where the innermost frame started after the stamp, adds `by` to its sums, and `back` to those of the innermost frame that
     /// started at or before the stamp, if there is one. Else nothing changes. There is a frame.
     #[inline(always)]
@@ -125,7 +140,7 @@ impl<S: Stamp> Frames<S> {
     {
         let top = self.depth() - 1;
         if stamp.number() < self.start_at(top).number() {
-            let place = last_at_most(self, stamp);
+            let place = self.place_below(top, stamp);
             self.add_if(place, back);
             self.add(top, by);
         }
