@@ -83,7 +83,7 @@ enum Paused {
 // Makes the steps of a row that lie in a page of code, as long as they can't write. The thread's program counter is `pc`, apart
 // from its registers, so that the compiler keeps it in a register.
 #[inline(always)]
-fn run_page_from<W: Observer>(
+fn run_page<W: Observer>(
     pc: &mut Addr,
     cpu: &mut Cpu,
     memory: &GuestMemory,
@@ -126,34 +126,6 @@ fn run_page_from<W: Observer>(
     Ok(Paused::Done)
 }
 
-// The same, of a thread whose program counter is in `cpu`.
-#[inline(always)]
-fn run_page<W: Observer>(
-    cpu: &mut Cpu,
-    memory: &GuestMemory,
-    held: &Reservations,
-    tid: Tid,
-    page: &CodePage,
-    row: &mut StepRow,
-    observer: &mut W,
-) -> Result<Paused, AllocError>
-    requires page { IsCodeOf (memory_of memory.now) page.now }
-    requires run { MayRun W.stands (W.fits observer.old) tid row.old
-        (exec_state_of cpu.old memory.now held.now) observer.old }
-    requires range { row.old.told + row.old.left < 2 ^ 64 }
-    ensures runs { RunsOn W.stands (W.fits observer.old) tid
-        row.old (exec_state_of cpu.old memory.now held.now) observer.old
-        row.new (exec_state_of cpu.new memory.now held.now) observer.new (answer_of result) }
-    ensures next { IfOk result (IsPaused (memory_of memory.now) cpu.new.pc row.new) }
-    ensures grows { row.old.told + row.old.plain ≤ row.new.told + row.new.plain }
-    ensures same { W.fits observer.new ≡ W.fits observer.old }
-{
-    let mut pc = cpu.pc;
-    let answer = run_page_from(&mut pc, cpu, memory, held, tid, page, row, observer);
-    cpu.pc = pc;
-    answer
-}
-
 // Whether a row of steps goes on.
 enum Further {
     Went,
@@ -185,10 +157,13 @@ fn run_page_at<W: Observer>(
     ensures grows { row.old.told + row.old.plain ≤ row.new.told + row.new.plain }
     ensures same { W.fits observer.new ≡ W.fits observer.old }
 {
-    match memory.code_page(place) {
-        Some(page) => run_page(cpu, memory, held, tid, page, row, observer),
-        None => Ok(Paused::Elsewhere),
-    }
+    let Some(page) = memory.code_page(place) else {
+        return Ok(Paused::Elsewhere);
+    };
+    let mut pc = cpu.pc;
+    let answer = run_page(&mut pc, cpu, memory, held, tid, page, row, observer);
+    cpu.pc = pc;
+    answer
 }
 
 // Counts a step of a row, if one was made.

@@ -1,16 +1,147 @@
-use Rattle.std.proofs.Common.{◌≡◌, ap, sym, subst}
-use Rattle.rv_exec.specs.Effects.{exec_state_of}
-use Rattle.rv_exec.specs.Registers.{Registers, with_pc}
-use Rattle.guest_machine.specs.Private.Rows.{RunsOn, answer_of}
+use Rattle.std.proofs.Common.{◌≡◌, Option, IfSome, ◌+◌, ◌++◌, Ok, Err, IfOk, sym, ap, subst, ◌∙◌, arith}
+use Rattle.rv_isa.specs.declared.instruction.Instr.{Instr}
+use Rattle.guest_memory.specs.Code.{IsInstructionAt}
+use Rattle.guest_memory.specs.Guest.{memory_of}
+use Rattle.rv_exec.specs.Effects.{ExecState, exec_state_of}
+use Rattle.rv_exec.specs.Registers.{with_pc}
+use Rattle.trace_model.specs.declared.observer.Observed.{Observed}
+use Rattle.trace_model.specs.declared.observer.Observed.TheVariants.{Refused, Taken}
+use Rattle.trace_model.specs.Observing.{MayTakeAll, ObservesAll}
+use Rattle.guest_machine.specs.Private.Carrying.{IsReadingOf, IsStepOf}
+use Rattle.guest_machine.specs.Private.Rows.{HasRun}
+use Rattle.guest_machine.specs.Told.{IsInstruction, done_by, steps_of}
+use Rattle.guest_machine.proofs.Carried.{state_aligned}
+use Rattle.guest_machine.proofs.RowOfSteps.{handed_grows, handed_whole, may_hand, runs_plainly, runs_to, state_here}
 use Rattle.guest_machine.proofs.rows.run_page.Goals as goal
 
-pub returns-clause-runs : goal.returns-clause-runs
-returns-clause-runs g c =
-    let fits = g.W.Observer.fits c.args.observer.now in
-    let from = c.run_page_from-answer in
-    let here : with_pc c.cpu.inside.pc c.args.cpu.now ≡ c.args.cpu.now = ap (λ pc. with_pc pc c.args.cpu.now) (ap (λ (r : Registers). r.pc) c.cpu.view_is) in
-    let there = ap (with_pc from.new.pc) c.cpu-2.view_is in
-    let Led : Registers → Registers → Type 0 = λ old new.
-    RunsOn g.W.Observer.stands fits c.args.tid c.args.row.now (exec_state_of old c.args.memory.now c.args.held.now) c.args.observer.now
-    from.new.row (exec_state_of new c.args.memory.now c.args.held.now) from.new.observer (answer_of from.result) in
-    subst (Led c.args.cpu.now) (sym there) (subst (λ old. Led old (with_pc from.new.pc from.new.cpu)) here from.ensures.runs)
+pub find-requires : goal.find-requires
+find-requires g c =
+    let old = c.args.observer.now in
+    let r = c.requires.run in
+    let here = exec_state_of (with_pc c.steps.pc c.steps.cpu) c.args.memory.now c.args.held.now in
+    state_aligned here c.args.tid _ (state_here g.W.Observer.stands (g.W.Observer.fits old) (g.W.Observer.steps_fit old) c.args.tid r.first r.old r.most c.steps.row here c.steps.observer
+    (c.steps.invariant.runs r.first r.old r.most r.run))
+
+pub returns-in-MayWrite-clause-runs : goal.returns-in-MayWrite-clause-runs
+returns-in-MayWrite-clause-runs g c =
+    let old = c.args.observer.now in
+    let here = exec_state_of (with_pc c.steps.pc c.steps.cpu) c.args.memory.now c.args.held.now in
+    let new = exec_state_of (with_pc c.carry_out_reading.new.pc c.carry_out_reading.new.cpu) c.args.memory.now c.args.held.now in
+    let kept : new ≡ here = subst (IsReadingOf here new c.args.tid) c.in-MayWrite.is (c.carry_out_reading.ensures c.args.tid c.args.held.now) in
+    λ first began most run.
+    subst (λ (s : ExecState). HasRun g.W.Observer.stands (g.W.Observer.fits old) c.args.tid first began most c.steps.row s c.steps.observer) (sym kept)
+    (c.steps.invariant.runs first began most run)
+
+pub returns-in-MayWrite-clause-next : goal.returns-in-MayWrite-clause-next
+returns-in-MayWrite-clause-next g c =
+    let m = memory_of c.args.memory.now in
+    let here = exec_state_of (with_pc c.steps.pc c.steps.cpu) c.args.memory.now c.args.held.now in
+    let new = exec_state_of (with_pc c.carry_out_reading.new.pc c.carry_out_reading.new.cpu) c.args.memory.now c.args.held.now in
+    let kept : new ≡ here = subst (IsReadingOf here new c.args.tid) c.in-MayWrite.is (c.carry_out_reading.ensures c.args.tid c.args.held.now) in
+    let found = subst (λ (o : Option Instr). IfSome o (IsInstructionAt m c.steps.pc)) c.in-Some.is (c.find.ensures m c.requires.page) in
+    let same = sym (ap (λ (s : ExecState). s.registers.pc) kept) in
+    (c.steps-test.true, subst (λ pc. IsInstructionAt m pc c.in-Some.instruction) same found)
+
+pub returns-in-Stops-clause-runs : goal.returns-in-Stops-clause-runs
+returns-in-Stops-clause-runs g c =
+    let old = c.args.observer.now in
+    let here = exec_state_of (with_pc c.steps.pc c.steps.cpu) c.args.memory.now c.args.held.now in
+    let new = exec_state_of (with_pc c.carry_out_reading.new.pc c.carry_out_reading.new.cpu) c.args.memory.now c.args.held.now in
+    let kept : new ≡ here = subst (IsReadingOf here new c.args.tid) c.in-Stops.is (c.carry_out_reading.ensures c.args.tid c.args.held.now) in
+    λ first began most run.
+    subst (λ (s : ExecState). HasRun g.W.Observer.stands (g.W.Observer.fits old) c.args.tid first began most c.steps.row s c.steps.observer) (sym kept)
+    (c.steps.invariant.runs first began most run)
+
+pub steps-preserved-in-Ran : goal.steps-preserved-in-Ran
+steps-preserved-in-Ran g c =
+    let old = c.args.observer.now in
+    let tid = c.args.tid in
+    let here = exec_state_of (with_pc c.steps.pc c.steps.cpu) c.args.memory.now c.args.held.now in
+    let new = exec_state_of (with_pc c.carry_out_reading.new.pc c.carry_out_reading.new.cpu) c.args.memory.now c.args.held.now in
+    let went : IsStepOf here new tid c.in-Went.advanced × IsInstruction c.in-Went.advanced = subst (IsReadingOf here new tid) c.in-Went.is (c.carry_out_reading.ensures c.args.tid c.args.held.now) in
+    let step = subst (IsStepOf here new tid) c.in-Ran.is went.0 in
+    record {
+      runs = λ first began most run.
+          runs_plainly g.W.Observer.stands (g.W.Observer.fits old) (g.W.Observer.steps_fit old) tid first began most c.steps.row here c.steps.observer
+          (c.steps.invariant.runs first began most run) c.steps-test.true new step;
+      grows = omega (arith, c.steps.invariant.grows);
+      whole = c.steps.invariant.whole;
+      same = c.steps.invariant.same;
+    }
+
+pub hand_step-requires : goal.hand_step-requires
+hand_step-requires g c =
+    let old = c.args.observer.now in
+    let tid = c.args.tid in
+    let r = c.requires.run in
+    let here = exec_state_of (with_pc c.steps.pc c.steps.cpu) c.args.memory.now c.args.held.now in
+    let new = exec_state_of (with_pc c.carry_out_reading.new.pc c.carry_out_reading.new.cpu) c.args.memory.now c.args.held.now in
+    let went : IsStepOf here new tid c.in-Went.advanced × IsInstruction c.in-Went.advanced = subst (IsReadingOf here new tid) c.in-Went.is (c.carry_out_reading.ensures c.args.tid c.args.held.now) in
+    record {
+      instruction = went.1;
+      within = c.steps-test.true;
+      range = omega (arith, c.steps.invariant.whole, c.requires.range);
+      next = subst (λ fits. MayTakeAll g.W.Observer.stands fits c.steps.observer (steps_of tid (c.steps.row.plain + 1) ++ done_by tid c.in-Went.advanced)) (sym c.steps.invariant.same)
+          (may_hand g.W.Observer.stands (g.W.Observer.fits old) (g.W.Observer.steps_fit old) tid r.first r.old r.most c.steps.row here c.steps.observer
+          (c.steps.invariant.runs r.first r.old r.most r.run) c.steps-test.true new c.in-Went.advanced went.0);
+    }
+
+pub steps-preserved : goal.steps-preserved
+steps-preserved g c =
+    let old = c.args.observer.now in
+    let tid = c.args.tid in
+    let here = exec_state_of (with_pc c.steps.pc c.steps.cpu) c.args.memory.now c.args.held.now in
+    let new = exec_state_of (with_pc c.carry_out_reading.new.pc c.carry_out_reading.new.cpu) c.args.memory.now c.args.held.now in
+    let went : IsStepOf here new tid c.in-Went.advanced × IsInstruction c.in-Went.advanced = subst (IsReadingOf here new tid) c.in-Went.is (c.carry_out_reading.ensures c.args.tid c.args.held.now) in
+    let events = steps_of tid (c.steps.row.plain + 1) ++ done_by tid c.in-Went.advanced in
+    let observes = subst (λ fits. IfOk c.hand_step.result (ObservesAll g.W.Observer.stands fits events c.steps.observer c.hand_step.new.observer)) c.steps.invariant.same c.hand_step.ensures.observed in
+    let grown = handed_grows c.steps.row c.hand_step.new.row c.hand_step.ensures.row in
+    record {
+      runs = λ first began most run.
+          runs_to g.W.Observer.stands (g.W.Observer.fits old) (g.W.Observer.steps_fit old) tid first began most c.steps.row here c.steps.observer
+          (c.steps.invariant.runs first began most run) c.steps-test.true new c.in-Went.advanced went.0 c.hand_step.new.row c.hand_step.ensures.row
+          c.hand_step.result (Ok Taken) (c.in-Ok-Taken.is ∙ ap (λ (o : Observed). Ok o) c.in-Ok-Taken.field-0-is) c.hand_step.new.observer observes;
+      grows = omega (arith, c.steps.invariant.grows, grown);
+      whole = handed_whole c.steps.row c.hand_step.new.row c.hand_step.ensures.row c.steps-test.true ∙ c.steps.invariant.whole;
+      same = c.hand_step.ensures.same ∙ c.steps.invariant.same;
+    }
+
+pub returns-in-Ok-Refused : goal.returns-in-Ok-Refused
+returns-in-Ok-Refused g c =
+    let old = c.args.observer.now in
+    let tid = c.args.tid in
+    let here = exec_state_of (with_pc c.steps.pc c.steps.cpu) c.args.memory.now c.args.held.now in
+    let new = exec_state_of (with_pc c.carry_out_reading.new.pc c.carry_out_reading.new.cpu) c.args.memory.now c.args.held.now in
+    let went : IsStepOf here new tid c.in-Went.advanced × IsInstruction c.in-Went.advanced = subst (IsReadingOf here new tid) c.in-Went.is (c.carry_out_reading.ensures c.args.tid c.args.held.now) in
+    let events = steps_of tid (c.steps.row.plain + 1) ++ done_by tid c.in-Went.advanced in
+    let observes = subst (λ fits. IfOk c.hand_step.result (ObservesAll g.W.Observer.stands fits events c.steps.observer c.hand_step.new.observer)) c.steps.invariant.same c.hand_step.ensures.observed in
+    let grown = handed_grows c.steps.row c.hand_step.new.row c.hand_step.ensures.row in
+    record {
+      runs = λ first began most run.
+          runs_to g.W.Observer.stands (g.W.Observer.fits old) (g.W.Observer.steps_fit old) tid first began most c.steps.row here c.steps.observer
+          (c.steps.invariant.runs first began most run) c.steps-test.true new c.in-Went.advanced went.0 c.hand_step.new.row c.hand_step.ensures.row
+          c.hand_step.result (Ok Refused) (c.in-Ok-Refused.is ∙ ap (λ (o : Observed). Ok o) c.in-Ok-Refused.field-0-is) c.hand_step.new.observer observes;
+      next = tt;
+      grows = omega (arith, c.steps.invariant.grows, grown);
+      same = c.hand_step.ensures.same ∙ c.steps.invariant.same;
+    }
+
+pub returns-in-Err : goal.returns-in-Err
+returns-in-Err g c =
+    let old = c.args.observer.now in
+    let tid = c.args.tid in
+    let here = exec_state_of (with_pc c.steps.pc c.steps.cpu) c.args.memory.now c.args.held.now in
+    let new = exec_state_of (with_pc c.carry_out_reading.new.pc c.carry_out_reading.new.cpu) c.args.memory.now c.args.held.now in
+    let went : IsStepOf here new tid c.in-Went.advanced × IsInstruction c.in-Went.advanced = subst (IsReadingOf here new tid) c.in-Went.is (c.carry_out_reading.ensures c.args.tid c.args.held.now) in
+    let events = steps_of tid (c.steps.row.plain + 1) ++ done_by tid c.in-Went.advanced in
+    let observes = subst (λ fits. IfOk c.hand_step.result (ObservesAll g.W.Observer.stands fits events c.steps.observer c.hand_step.new.observer)) c.steps.invariant.same c.hand_step.ensures.observed in
+    let grown = handed_grows c.steps.row c.hand_step.new.row c.hand_step.ensures.row in
+    record {
+      runs = λ first began most run.
+          runs_to g.W.Observer.stands (g.W.Observer.fits old) (g.W.Observer.steps_fit old) tid first began most c.steps.row here c.steps.observer
+          (c.steps.invariant.runs first began most run) c.steps-test.true new c.in-Went.advanced went.0 c.hand_step.new.row c.hand_step.ensures.row
+          c.hand_step.result (Err c.in-Err.e) (c.in-Err.is) c.hand_step.new.observer observes;
+      next = tt;
+      grows = omega (arith, c.steps.invariant.grows, grown);
+      same = c.hand_step.ensures.same ∙ c.steps.invariant.same;
+    }

@@ -3,7 +3,7 @@ use Rattle.rv_exec.specs.Effects.{exec_state_of}
 use Rattle.rv_exec.specs.Registers.{with_pc}
 use Rattle.trace_model.specs.declared.observer.Observed.TheVariants.{Taken}
 use Rattle.guest_machine.specs.Private.Rows.{RunsOn}
-use Rattle.guest_machine.proofs.rows.run_page_from.Given as goal
+use Rattle.guest_machine.proofs.rows.run_page.Given as goal
 
 abbrev pub invariant-steps : goal.invariant-steps
 invariant-steps g l = record {
