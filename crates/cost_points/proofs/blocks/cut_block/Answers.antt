@@ -1,12 +1,15 @@
 use Rattle.std.proofs.Common.{◌≡◌, ◌<◌, ap, arith, cond, length, map, refl, ◌∙◌, Result, Ok, Err, IsOk}
 use Rattle.std.specs.Prelude.{is_ok}
-use Rattle.cost_points.specs.Places.{cut}
+use Rattle.cost_points.specs.Private.Blocks.{cut}
 use Rattle.cost_points.proofs.InBlocks.{cut_made}
 use Rattle.cost_points.proofs.blocks.cut_block.Goals as goal
 
 taken : {T E : Type 0} {X : Type 0} (r : Result T E) (a b : X) → IsOk r → cond (is_ok r) a b ≡ a
 taken (Ok v) a b ok = refl
 taken (Err e) a b ok = absurd (cc)
+
+pub unwrap-requires : goal.unwrap-requires
+unwrap-requires g c = c.insert.ensures.succeeds (omega (arith, c.in_ok-reserve.ensures.ok))
 
 pub returns-clause-ok : goal.returns-clause-ok
 returns-clause-ok g c =
