@@ -151,14 +151,6 @@ module _ {A : Type 0} where
         starts_are = starts_kept bs cs starts b are.starts_are inside same;
       }
 
-  pub indexed_kept : (bs cs : List (List A)) (count : ℕ) (starts : List ℕ) (b : ℕ) → AreIndexed bs count starts → IsFilled cs → b < length cs →
-      ((k : ℕ) → k ≤ b → before k cs ≡ before k bs) → joined cs ≡ joined bs → AreIndexed cs count (take (b + 1) starts)
-  indexed_kept bs cs count starts b are filled inside same as_before = record {
-    filled = filled;
-    all = are.all ∙ ap length (sym as_before);
-    starts_are = starts_kept bs cs starts b are.starts_are inside same;
-  }
-
 -- ---- by keys
 -- the item that was found among all
 pub found_at : {B : Type 0} (key : B → ℕ) (bs : List (List B)) (x b at : ℕ) (a : B) → IsPlaceOf key bs x b at → a ≡ get_or (get_or bs b []) at a →
@@ -192,10 +184,6 @@ module _ {B : Type 0} (key : B → ℕ) (bs : List (List B)) (x y : ℕ) (named 
     pub it_changes : (change : B → B) (new made : B) → IsRising (map key (joined bs)) → made ≡ change found → joined (with_changed bs b at made) ≡ put key y change new (joined bs)
     it_changes change new made up is =
         ap (λ a. joined (with_changed bs b at a)) is ∙ put_changed key x change new bs b at found up place read ∙ ap (λ k. put key k change new (joined bs)) named
-
-    -- it stays
-    pub it_stays : (made : B) → made ≡ found → joined (with_changed bs b at made) ≡ joined bs
-    it_stays made is = ap (λ a. joined (with_changed bs b at a)) is ∙ ap joined (changed_same bs b at found read)
 
 -- an item that is there
 pub there_already : {B : Type 0} (key : B → ℕ) (bs : List (List B)) (x y : ℕ) (named : x ≡ y) (b at : ℕ) (d : B) → IsRising (map key (joined bs)) → IsPlaceOf key bs x b at → joined bs ≡ put key y (λ a. a) d (joined bs)

@@ -8,9 +8,6 @@ taken : {T E : Type 0} {X : Type 0} (r : Result T E) (a b : X) → IsOk r → co
 taken (Ok v) a b ok = refl
 taken (Err e) a b ok = absurd (cc)
 
-pub unwrap-requires : goal.unwrap-requires
-unwrap-requires g c = c.insert.ensures.succeeds (omega (arith, c.in_ok-reserve.ensures.ok))
-
 pub returns-clause-ok : goal.returns-clause-ok
 returns-clause-ok g c =
     let inside : c.args.b < length c.reserve.new.self.items = omega (arith, c.requires.inside, ap length c.reserve.ensures.items) in

@@ -1,12 +1,11 @@
 use Rattle.std.proofs.Common.{map, subst, sym}
 use Rattle.std.specs.List.{All}
-use Rattle.std.proofs.lemmas.Result.{on_err_weaker}
 use Rattle.cost_points.specs.Merging.{point_added}
 use Rattle.cost_points.specs.Points.{Routine}
 use Rattle.cost_points.specs.Search.{HasRoom, IsAt}
 use Rattle.cost_points.specs.Valid.{IsRoutine}
 use Rattle.cost_points.proofs.InBlocks.{item_in}
-use Rattle.cost_points.proofs.Indexed.{it_changes, it_is, it_stays, none_has}
+use Rattle.cost_points.proofs.Indexed.{it_changes, it_is, none_has}
 use Rattle.cost_points.proofs.Merged.{new_routine, on_ok}
 use Rattle.cost_points.proofs.routines.add.Goals as goal
 
@@ -27,12 +26,6 @@ returns-in-Ok-clause-ok c =
     on_ok c.add.result _ _ c.add.ensures.ok
     (it_changes (λ (r : Routine). r.entry) c.args.routines.now c.from.result c.args.entry c.from.ensures place.block place.at c.in-Ok.ensures c.at_mut-routine.result.now c.at_mut-routine.ensures.found
     (point_added p) (new_routine c.args.entry p) c.add.new.self c.requires.profile.entries)
-
-pub returns-in-Ok-clause-err : goal.returns-in-Ok-clause-err
-returns-in-Ok-clause-err c =
-    let place = c.in-Ok.place in
-    on_err_weaker c.add.result
-    (it_stays (λ (r : Routine). r.entry) c.args.routines.now c.from.result c.args.entry c.from.ensures place.block place.at c.in-Ok.ensures c.at_mut-routine.result.now c.at_mut-routine.ensures.found c.add.new.self) c.add.ensures.err
 
 pub returns-in-Ok-clause-no_allocation : goal.returns-in-Ok-clause-no_allocation
 returns-in-Ok-clause-no_allocation c i at r there entry point =

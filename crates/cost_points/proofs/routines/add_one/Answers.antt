@@ -1,14 +1,11 @@
-use Rattle.std.proofs.Common.{[], ◌∷◌, map, subst, sym, ap, ◌∙◌}
+use Rattle.std.proofs.Common.{[], ◌∷◌, map, subst, sym}
 use Rattle.std.specs.List.{All}
-use Rattle.std.proofs.lemmas.Result.{on_err_weaker}
-use Rattle.cost_points.specs.declared.point.Point.{Point}
-use Rattle.cost_points.specs.Joined.{joined}
-use Rattle.cost_points.specs.Merging.{point_added, with_point}
+use Rattle.cost_points.specs.Merging.{point_added}
 use Rattle.cost_points.specs.Points.{Routine, point_of}
 use Rattle.cost_points.specs.Search.{HasRoom, IsAt}
 use Rattle.cost_points.specs.Valid.{IsRoutine}
 use Rattle.cost_points.proofs.InBlocks.{item_in}
-use Rattle.cost_points.proofs.Indexed.{it_changes, it_is, it_stays, none_has}
+use Rattle.cost_points.proofs.Indexed.{it_changes, it_is, none_has}
 use Rattle.cost_points.proofs.Merged.{new_routine, on_ok}
 use Rattle.cost_points.proofs.routines.add_one.Goals as goal
 
@@ -30,21 +27,11 @@ returns-in-Ok-clause-ok c =
     (it_changes (λ (r : Routine). r.entry) c.args.routines.now c.from.result c.args.ended.now.entry c.from.ensures place.block place.at c.in-Ok.ensures c.at_mut-routine.result.now c.at_mut-routine.ensures.found
     (point_added p) (new_routine c.args.ended.now.entry p) c.add_one.new.self c.requires.profile.entries)
 
-pub returns-in-Ok-clause-err : goal.returns-in-Ok-clause-err
-returns-in-Ok-clause-err c =
-    let place = c.in-Ok.place in
-    on_err_weaker c.add_one.result
-    (it_stays (λ (r : Routine). r.entry) c.args.routines.now c.from.result c.args.ended.now.entry c.from.ensures place.block place.at c.in-Ok.ensures c.at_mut-routine.result.now c.at_mut-routine.ensures.found c.add_one.new.self) c.add_one.ensures.err
-
 pub returns-in-Ok-clause-no_allocation : goal.returns-in-Ok-clause-no_allocation
 returns-in-Ok-clause-no_allocation c i at r there entry point =
     let place = c.in-Ok.place in
     let same = it_is (λ (r : Routine). r.entry) c.args.routines.now c.from.result c.args.ended.now.entry c.from.ensures place.block place.at c.in-Ok.ensures c.at_mut-routine.result.now c.at_mut-routine.ensures.found i r c.requires.profile.entries there entry in
     c.add_one.ensures.no_allocation at (subst (λ (q : Routine). IsAt (map (λ p. p.size) q.points) c.args.ended.now.size at) (sym same) point)
-
-pub returns-in-Err-clause-ok : goal.returns-in-Err-clause-ok
-returns-in-Err-clause-ok c =
-    on_ok c.add_routine.result _ _ c.add_routine.ensures.ok (λ made. made ∙ ap (λ (p : Point). with_point c.args.ended.now.entry p (joined c.args.routines.now)) c.of_one.ensures)
 
 pub returns-in-Err-clause-no_allocation : goal.returns-in-Err-clause-no_allocation
 returns-in-Err-clause-no_allocation c i at r there entry point =

@@ -2,7 +2,6 @@ use Rattle.std.proofs.Common.{ap, ◌∙◌}
 use Rattle.cost_points.specs.Joined.{joined}
 use Rattle.cost_points.specs.Keys.{put}
 use Rattle.cost_points.specs.Merging.{point_added}
-use Rattle.cost_points.specs.Places.{IsGapOf}
 use Rattle.cost_points.specs.Points.{Routine}
 use Rattle.cost_points.proofs.routines.add_routine.Goals as goal
 

@@ -10,9 +10,6 @@ taken : {T E : Type 0} {X : Type 0} (r : Result T E) (a b : X) → IsOk r → co
 taken (Ok v) a b ok = refl
 taken (Err e) a b ok = absurd (cc)
 
-pub unwrap-requires : goal.unwrap-requires
-unwrap-requires c = c.insert.ensures.succeeds c.requires.spare
-
 pub returns-in-Ok : goal.returns-in-Ok
 returns-in-Ok c =
     let p = c.args.point in

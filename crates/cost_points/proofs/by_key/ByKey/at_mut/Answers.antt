@@ -1,4 +1,4 @@
-use Rattle.std.proofs.Common.{◌≡◌, ◌<◌, [], ap, arith, get_or, length, map, refl, subst, sym, ◌∙◌}
+use Rattle.std.proofs.Common.{◌<◌, [], ap, arith, get_or, length, map, refl, subst, sym, ◌∙◌}
 use Rattle.std.proofs.lemmas.List.{length-map}
 use Rattle.cost_points.specs.Indexes.{AreIndexed}
 use Rattle.cost_points.specs.Places.{with_changed}

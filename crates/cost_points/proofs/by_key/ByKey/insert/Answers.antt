@@ -1,4 +1,4 @@
-use Rattle.std.proofs.Common.{◌≡◌, ◌+◌, ◌<◌, ◌≤◌, [], ap, arith, get_or, length, map, subst, sym, ◌∙◌}
+use Rattle.std.proofs.Common.{◌+◌, [], ap, arith, get_or, map, subst, sym, ◌∙◌}
 use Rattle.std.proofs.lemmas.List.{length-map}
 use Rattle.cost_points.specs.Indexes.{AreIndexed}
 use Rattle.cost_points.specs.Joined.{joined}

@@ -1,4 +1,4 @@
-use Rattle.std.proofs.Common.{◌≡◌, ◌+◌, ◌<◌, ◌^◌, [], ◌∷◌, true, is_some, List, length, map, ◌≤◌, ap, refl, sym, ◌∙◌, subst, rules}
+use Rattle.std.proofs.Common.{◌≡◌, ◌+◌, ◌<◌, ◌^◌, [], ◌∷◌, true, is_some, List, length, ◌≤◌, ap, refl, sym, ◌∙◌, subst, rules}
 use Rattle.std.specs.List.{All}
 use Rattle.cost_points.specs.Contents.{IsCounted, TableContents}
 use Rattle.cost_points.specs.Joined.{joined}

@@ -1,4 +1,4 @@
-use Rattle.std.proofs.Common.{◌+◌, ◌<◌, ◌≤◌, ◌^◌, List, arith, length, map, refl, ap, sym, ◌∙◌, subst, rules}
+use Rattle.std.proofs.Common.{◌+◌, ◌<◌, ◌≤◌, ◌^◌, List, arith, length, refl, ap, sym, ◌∙◌, subst, rules}
 use Rattle.std.specs.List.{All}
 use Rattle.cost_points.specs.Contents.{IsCounted, TableContents}
 use Rattle.cost_points.specs.Joined.{joined}
