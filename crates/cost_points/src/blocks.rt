@@ -143,7 +143,11 @@ fn shorten<T: Drop>(blocks: &mut Vec<Vec<T>>, place: Place) -> Result<Place, All
 }
 
 /// One item more, at a place, and where it stands then. A refusal changes no item.
-pub(crate) fn insert<T: Drop>(blocks: &mut Vec<Vec<T>>, place: Place, item: T) -> Result<Place, AllocError>
+pub(crate) fn insert<T: Drop>(
+    blocks: &mut Vec<Vec<T>>,
+    place: Place,
+    item: T,
+) -> Result<Place, AllocError>
     requires inside { place.block < length blocks.old.items }
     requires at { place.at ≤ length (get_or (map (λ v. v.items) blocks.old.items) place.block []) }
     requires filled { IsFilled (map (λ v. v.items) blocks.old.items) }

@@ -45,7 +45,11 @@ pub(crate) fn place_of<T>(blocks: &[Vec<T>], starts: &[usize], i: usize) -> Plac
 }
 
 /// Where all blocks begin, from where some do. A refusal keeps what is known.
-pub(crate) fn extend<T>(blocks: &[Vec<T>], count: usize, starts: &mut Vec<usize>) -> Result<(), AllocError>
+pub(crate) fn extend<T>(
+    blocks: &[Vec<T>],
+    count: usize,
+    starts: &mut Vec<usize>,
+) -> Result<(), AllocError>
     requires starts { AreStarts (map (λ b. b.items) blocks.now) starts.old.items }
     requires count { count ≡ length (joined (map (λ b. b.items) blocks.now)) }
     ensures starts { AreStarts (map (λ b. b.items) blocks.now) starts.new.items }

@@ -26,7 +26,11 @@ impl Keyed for RoutinePoints {
 
 /// One more activation. A refusal changes no routine.
 #[inline(always)]
-pub(crate) fn add_one(routines: &mut ByKey<RoutinePoints>, alloc: Global, ended: &Done) -> Result<(), AllocError>
+pub(crate) fn add_one(
+    routines: &mut ByKey<RoutinePoints>,
+    alloc: Global,
+    ended: &Done,
+) -> Result<(), AllocError>
     requires few { length (joined routines.old) < 2 ^ 63 }
     requires profile { IsProfile (joined routines.old) }
     requires room { All (λ r. All HasRoom r.points) (joined routines.old) }
@@ -69,7 +73,12 @@ fn add_routine(
 }
 
 /// One more point. A refusal changes no routine.
-pub(crate) fn add(routines: &mut ByKey<RoutinePoints>, alloc: Global, entry: Addr, point: Point) -> Result<(), AllocError>
+pub(crate) fn add(
+    routines: &mut ByKey<RoutinePoints>,
+    alloc: Global,
+    entry: Addr,
+    point: Point,
+) -> Result<(), AllocError>
     requires few { length (joined routines.old) < 2 ^ 63 }
     requires profile { IsProfile (joined routines.old) }
     requires room { All (λ r. All HasRoom r.points) (joined routines.old) }
