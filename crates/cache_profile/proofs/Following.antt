@@ -27,7 +27,8 @@ use Rattle.cache_lines.specs.Kept as lines
 use Rattle.cache_lines.specs.Shapes.{Dimensions}
 use Rattle.cache_profile.specs.ByRoutine.{LineAccess, accesses_of, all_accesses, by_routine, innermost, routine_at}
 use Rattle.cache_profile.specs.LineAccesses.{line_accesses, lines_accessed, lines_over, missed}
-use Rattle.cache_profile.specs.Profile.{IsOfSome, IsOther, KeptMisses, MayCome, MissesStandFor, lives}
+use Rattle.cache_profile.specs.Private.Other.{IsOther}
+use Rattle.cache_profile.specs.Profile.{IsOfSome, KeptMisses, MayCome, MissesStandFor, lives}
 use Rattle.cache_profile.proofs.Accessed.{count_missed}
 use Rattle.cache_profile.proofs.Bounds.{length-accesses_of}
 use Rattle.cache_profile.proofs.Groups.{AreOf}

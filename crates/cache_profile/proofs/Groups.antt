@@ -1,10 +1,13 @@
 -- The accesses of an event come into the counts of routines.
-use Rattle.std.proofs.Common.{◌≡◌, ℕ, ◌+◌, ◌≤◌, suc, List, [], ◌∷◌, ◌++◌, length, map, cond, inl, inr, refl, sym, ap, ap₂, ◌∙◌, subst, arith, length-append}
+use Rattle.std.proofs.Common.{◌≡◌, ℕ, ◌+◌, ◌≤◌, suc, List, [], ◌∷◌, ◌++◌, length, map, get_or, cond, inl, inr, refl, sym, ap, ap₂, ◌∙◌, subst, arith, length-append}
 use Rattle.std.specs.List.{All, count_by}
 use Rattle.std.proofs.lemmas.List.{append-nil}
 use Rattle.std.proofs.lemmas.List.Sums.{sum_by-append}
+use Rattle.cost_points.specs.Joined.{joined}
 use Rattle.cost_points.specs.Keys.{rising, IsRising, grouped, put}
+use Rattle.cost_points.specs.Places.{IsPlaceOf, with_changed}
 use Rattle.cost_points.proofs.Grouped.{grouped_labels}
+use Rattle.cost_points.proofs.Indexed.{it_changes}
 use Rattle.cost_points.proofs.Put.{grouped_put, keys_put, length-put, put-all, put_above, put_below, put_same}
 use Rattle.cost_points.proofs.Rising.{IsRising-insert, IsRising-rising, order}
 use Rattle.cache_profile.specs.declared.routines.RoutineMisses.{RoutineMisses}
@@ -103,3 +106,13 @@ pub added_first : (all more : List LineAccess) (x accesses misses : ℕ) (was ma
     AreOf x accesses misses more → new ≡ by_routine (all ++ more)
 added_first all more x accesses misses was first new was_is first_is new_is are =
     new_is ∙ ap (with_accesses x accesses misses) (first_is ∙ ap (with_routine x) was_is) ∙ made_first x accesses misses (by_routine all) ∙ sym (more_by_routine all more x accesses misses are)
+
+-- accesses are added to the routine at a place
+pub added_at : (all more : List LineAccess) (x accesses misses : ℕ) (was : List RoutineMisses) (bs : List (List RoutineMisses)) (b at : ℕ) (old new : RoutineMisses) → was ≡ by_routine all →
+    joined bs ≡ with_routine x was → IsPlaceOf (λ r. r.entry) bs x b at → old ≡ get_or (get_or bs b []) at old → new ≡ plus accesses misses old → AreOf x accesses misses more →
+    joined (with_changed bs b at new) ≡ by_routine (all ++ more)
+added_at all more x accesses misses was bs b at old new was_is found place read new_is are =
+    let up : IsRising (map (λ r. r.entry) (joined bs)) =
+    subst (λ (rs : List RoutineMisses). IsRising (map (λ r. r.entry) rs)) (sym (found ∙ ap (with_routine x) was_is)) (entries_with x (by_routine all) (entries_rise all)) in
+    added_first all more x accesses misses was (joined bs) (joined (with_changed bs b at new)) was_is found
+    (it_changes (λ (r : RoutineMisses). r.entry) bs x x refl b at place old read (plus accesses misses) (counts x accesses misses) new up new_is) are

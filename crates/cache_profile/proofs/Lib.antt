@@ -3,4 +3,3 @@ pub mod Bounds
 pub mod Following
 pub mod Groups
 pub mod InRow
-pub mod Places

@@ -1,3 +1,3 @@
 -- What private functions promise one another. No public clause rests on it.
 pub mod Added
-pub mod Kept
+pub mod Other

@@ -2,7 +2,7 @@
 use Rattle.std.specs.Prelude.{◌≡◌, ℕ, Bool, true, false, List, is_some}
 use Rattle.guest_words.specs.ByThread.{value_of}
 use Rattle.trace_model.specs.declared.event_kinds.Event.{Event}
-use Rattle.trace_model.specs.declared.event_kinds.Event.TheVariants.{Fill, Read, Step, Write}
+use Rattle.trace_model.specs.declared.event_kinds.Event.TheVariants.{Fill, Step}
 use Rattle.trace_model.specs.Profile.{steps}
 use Rattle.trace_order.specs.Progress.{IsAllowed, IsProgressOf, ProgressState, is_of_one}
 use Rattle.call_tracker.specs.CallStacks.{Stacks}
@@ -37,13 +37,6 @@ abbrev pub is_step_or_fill : Event → Bool
 is_step_or_fill (Step _) = true
 is_step_or_fill (Fill _ _) = true
 is_step_or_fill _ = false
-
--- the event neither accesses words nor is a step
-abbrev pub IsOther : Event → Type 0
-IsOther (Read _ _ _) = ⊥
-IsOther (Write _ _ _) = ⊥
-IsOther (Step _) = ⊥
-IsOther e = Unit {0}
 
 -- the thread is one of those whose calls are kept
 abbrev pub lives : KeptMisses → ℕ → Bool

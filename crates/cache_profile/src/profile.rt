@@ -9,13 +9,14 @@ ghost use Rattle.trace_model.specs.WellFormed.{IsWellFormed};
 ghost use Rattle.trace_order.specs.Progress.{is_of_one};
 ghost use Rattle.call_tracker.specs.CallStacks.{StacksStandFor as CallsOf};
 ghost use Rattle.cache_profile.specs.ByRoutine.{innermost};
-ghost use Rattle.cache_profile.specs.Profile.{IsOther, MayCome, MissesStandFor, is_step_or_fill, lives};
+ghost use Rattle.cache_profile.specs.Private.Other.{IsOther};
+ghost use Rattle.cache_profile.specs.Profile.{MayCome, MissesStandFor, is_step_or_fill, lives};
 
 use crate::RoutineMisses;
 use crate::lines::access_words;
-use crate::routines::Routines;
 use cache_lines::{Cache, Shape};
 use call_tracker::CallStacks;
+use cost_points::ByKey;
 use guest_words::{Addr, Tid, Word};
 use std::alloc::{AllocError, Global};
 use std::marker::{Brand, Model, PhantomData};
@@ -41,15 +42,13 @@ impl Shaped for Brand {
 pub struct CacheProfile<K: Shaped> {
     cache: Cache,
     calls: CallStacks,
-    routines: Routines,
+    routines: ByKey<RoutineMisses>,
     steps: u64,
     progress: Progress,
     of: PhantomData<K>,
 }
 
 impl<K: Shaped> Model for CacheProfile<K> {
-    ghost use Rattle.std.specs.Prelude.{map};
-    ghost use Rattle.cost_points.specs.Indexes.{AreIndexed};
     ghost use Rattle.cost_points.specs.Joined.{joined};
     ghost use Rattle.cache_profile.specs.Profile.{IsOfSome, KeptMisses};
 
@@ -58,7 +57,7 @@ impl<K: Shaped> Model for CacheProfile<K> {
     ghost view = { λ p. record {
       cache = p.cache;
       calls = p.calls;
-      routines = joined (map (λ b. b.items) p.routines.blocks.items);
+      routines = joined p.routines;
       steps = p.steps;
       progress = p.progress;
     } };
@@ -66,10 +65,10 @@ impl<K: Shaped> Model for CacheProfile<K> {
     ghost invariant = { λ p. ∥ IsOfSome K.shape (record {
       cache = p.cache;
       calls = p.calls;
-      routines = joined (map (λ b. b.items) p.routines.blocks.items);
+      routines = joined p.routines;
       steps = p.steps;
       progress = p.progress;
-    }) ∥₁ × AreIndexed (map (λ b. b.items) p.routines.blocks.items) p.routines.count p.routines.starts.items };
+    }) ∥₁ };
 }
 
 // The entry of the routine that runs in the thread: that of its innermost open call.
@@ -91,7 +90,7 @@ impl<K: Shaped> CacheProfile<K> {
         Ok(CacheProfile {
             cache: Cache::new(alloc, shape)?,
             calls: CallStacks::new(alloc),
-            routines: Routines::new(alloc)?,
+            routines: ByKey::new(alloc)?,
             steps: 0,
             progress: Progress::new(),
             of: PhantomData,
@@ -102,7 +101,7 @@ impl<K: Shaped> CacheProfile<K> {
     pub fn routines(&self) -> usize
         ensures { result ≡ length self.now.routines }
     {
-        self.routines.count
+        self.routines.len()
     }
 
     /// Makes `routine` quick: logarithmic in the number of routines, until a new one comes. Without it, `routine` goes past the
@@ -118,7 +117,7 @@ impl<K: Shaped> CacheProfile<K> {
         requires { i < length self.now.routines }
         ensures { slice_get self.now.routines i ≡ Some result }
     {
-        self.routines.routine(i)
+        *self.routines.get(i)
     }
 
     /// The steps of all threads.
@@ -156,10 +155,14 @@ impl<K: Shaped> CacheProfile<K> {
         ensures refused { OnErr result (self.new ≡ self.old) }
     {
         let entry = running(&self.calls, tid);
-        let place = self.routines.find(entry)?;
-        let block = &mut self.routines.blocks[place.block];
-        let routine = &mut block[place.at];
+        let none = RoutineMisses {
+            entry,
+            accesses: 0,
+            misses: 0,
+        };
+        let place = self.routines.find_or_insert(none)?;
         let event = access_words(&mut self.cache, first, count);
+        let routine = self.routines.at_mut(place);
         routine.add(event.accesses, event.misses);
         self.progress.pass(e);
         Ok(())

@@ -6,7 +6,8 @@ use Rattle.std.proofs.lemmas.List.{append-nil, drop_all, get_or_append_left, get
 use Rattle.std.proofs.lemmas.List.Edits.{get_or-insert_at, insert-append_left, insert-append_right, length-insert}
 use Rattle.std.proofs.lemmas.List.Elements.{All-append, All-cons, All-map, All-nil, All-set, All-head, All-tail, All-weaker}
 use Rattle.cost_points.specs.Joined.{IsFilled, joined}
-use Rattle.cost_points.specs.Places.{IsBetween, IsBlockOf, IsGapOf, IsItemAt, IsPlaceOf, before, behind, cut, with_item}
+use Rattle.cost_points.specs.Places.{IsBlockOf, IsGapOf, IsPlaceOf, before, behind, with_changed}
+use Rattle.cost_points.specs.Private.Blocks.{IsBetween, IsItemAt, cut, with_item}
 use Rattle.cost_points.specs.Keys.{IsRising, put}
 use Rattle.cost_points.specs.Search.{IsAt}
 use Rattle.cost_points.proofs.Put.{put_above, put_at, put_below, put_in, put_same}
@@ -153,6 +154,11 @@ cut_made f vs b n w lower upper inside read low high =
 pub set_same : {V A : Type 0} (f : V → List A) (vs : List V) (b : ℕ) (w v : V) → b < length vs → w ≡ get_or vs b w → f v ≡ f w → map f (set vs b v) ≡ map f vs
 set_same f vs b w v inside read same =
     map-set f vs b v ∙ ap (set (map f vs) b) (same ∙ read_block f vs b w inside read) ∙ set-get_or (map f vs) b []
+
+-- another item at a place of a block
+pub block_changed : {V A : Type 0} (f : V → List A) (vs : List V) (b at : ℕ) (w v : V) (a : A) → b < length vs → w ≡ get_or vs b w → f v ≡ set (f w) at a → map f (set vs b v) ≡ with_changed (map f vs) b at a
+block_changed f vs b at w v a inside read made =
+    map-set f vs b v ∙ ap (set (map f vs) b) (made ∙ ap (λ ys. set ys at a) (read_block f vs b w inside read))
 
 -- one item more in a block
 pub item_added : {V A : Type 0} (f : V → List A) (vs : List V) (b at : ℕ) (w v : V) (a : A) → b < length vs → w ≡ get_or vs b w → f v ≡ insert (f w) at a → joined (map f (set vs b v)) ≡ with_item (map f vs) b at a
@@ -301,7 +307,7 @@ module _ {B : Type 0} (key : B → ℕ) (k : ℕ) (change : B → B) (new : B) w
       ∙ ap (put key k change new) (sym (joined_at bs b is.inside))
 
   -- the item that has the key is changed in its block
-  pub put_changed : (bs : List (List B)) (b at : ℕ) (old : B) → IsRising (map key (joined bs)) → IsPlaceOf key bs k b at → old ≡ get_or (get_or bs b []) at old → joined (set bs b (set (get_or bs b []) at (change old))) ≡ put key k change new (joined bs)
+  pub put_changed : (bs : List (List B)) (b at : ℕ) (old : B) → IsRising (map key (joined bs)) → IsPlaceOf key bs k b at → old ≡ get_or (get_or bs b []) at old → joined (with_changed bs b at (change old)) ≡ put key k change new (joined bs)
   put_changed bs b at old up place read =
       joined_set bs b (set (get_or bs b []) at (change old)) place.block.inside
       ∙ ap (λ ys. before b bs ++ (ys ++ behind b bs)) (put_at key k change new (get_or bs b []) at old (rising_block key bs b place.block.inside up) place.here read)
@@ -312,31 +318,31 @@ module _ {B : Type 0} (key : B → ℕ) (k : ℕ) (change : B → B) (new : B) w
   put_new bs b at gap =
       ap (λ ys. before b bs ++ (ys ++ behind b bs)) (put_in key k change new (get_or bs b []) at gap.here) ∙ put_block bs b gap.block
 
--- an item of a block, of which all items are known
+-- an item at a place, of which all items are known
+pub item_in : {B : Type 0} (key : B → ℕ) (P : B → Type 0) (bs : List (List B)) (k b at : ℕ) (old : B) → IsPlaceOf key bs k b at → old ≡ get_or (get_or bs b []) at old → All P (joined bs) → P old
+item_in key P bs k b at old place read all =
+    let items = get_or bs b [] in
+    let within : at < length (get_or bs b []) = omega (arith, place.here.in_range, length-map items key) in
+    let parts : All P (before b bs ++ (get_or bs b [] ++ behind b bs)) = subst (All P) (joined_at bs b place.block.inside) all in
+    subst P
+    (get_or-append-add (before b bs) (items ++ behind b bs) at old ∙ get_or_append_left items (behind b bs) old at within ∙ sym read)
+    (parts (length (before b bs) + at) old (omega (arith, within, length-append (before b bs) (items ++ behind b bs), length-append items (behind b bs))))
+
 pub item_has : {V B : Type 0} (f : V → List B) (key : B → ℕ) (P : B → Type 0) (vs : List V) (k b at : ℕ) (w : V) (old : B) → IsPlaceOf key (map f vs) k b at → w ≡ get_or vs b w → old ≡ get_or (f w) at old → All P (joined (map f vs)) → P old
 item_has f key P vs k b at w old place read is all =
-    let bs = map f vs in
-    let items = get_or (map f vs) b [] in
-    let inside : b < length vs = omega (arith, place.block.inside, length-map vs f) in
-    let within : at < length (get_or (map f vs) b []) = omega (arith, place.here.in_range, length-map items key) in
-    let parts : All P (before b (map f vs) ++ (get_or (map f vs) b [] ++ behind b (map f vs))) = subst (All P) (joined_at bs b place.block.inside) all in
-    subst P
-    (get_or-append-add (before b bs) (items ++ behind b bs) at old ∙ get_or_append_left items (behind b bs) old at within ∙ ap (λ ys. get_or ys at old) (sym (read_block f vs b w inside read)) ∙ sym is)
-    (parts (length (before b bs) + at) old (omega (arith, within, length-append (before b bs) (items ++ behind b bs), length-append items (behind b bs))))
+    item_in key P (map f vs) k b at old place (is ∙ ap (λ ys. get_or ys at old) (read_block f vs b w (omega (arith, place.block.inside, length-map vs f)) read)) all
 
 -- a block of which one item changes
 pub filled_changed : {V B : Type 0} (f : V → List B) (key : B → ℕ) (vs : List V) (k b at : ℕ) (w v : V) (new : B) → IsFilled (map f vs) → IsPlaceOf key (map f vs) k b at → w ≡ get_or vs b w → f v ≡ set (f w) at new → IsFilled (map f (set vs b v))
 filled_changed f key vs k b at w v new filled place read made =
     let items = get_or (map f vs) b [] in
-    let inside : b < length vs = omega (arith, place.block.inside, length-map vs f) in
-    subst IsFilled (sym (map-set f vs b v))
-    (filled_set (map f vs) b (f v) filled
-    (omega (arith, ap length made, length-set (f w) at new, ap length (read_block f vs b w inside read), place.here.in_range, length-map items key)))
+    subst IsFilled (sym (block_changed f vs b at w v new (omega (arith, place.block.inside, length-map vs f)) read made))
+    (filled_set (map f vs) b (set items at new) filled (omega (arith, length-set items at new, place.here.in_range, length-map items key)))
 
 pub item_changed : {V B : Type 0} (f : V → List B) (key : B → ℕ) (k : ℕ) (change : B → B) (new : B) (vs : List V) (b at : ℕ) (w v : V) (old : B) →
     IsRising (map key (joined (map f vs))) → IsPlaceOf key (map f vs) k b at → w ≡ get_or vs b w → old ≡ get_or (f w) at old → f v ≡ set (f w) at (change old) →
     joined (map f (set vs b v)) ≡ put key k change new (joined (map f vs))
 item_changed f key k change new vs b at w v old up place read is made =
-    let own : f w ≡ get_or (map f vs) b [] = read_block f vs b w (omega (arith, place.block.inside, length-map vs f)) read in
-    ap joined (map-set f vs b v ∙ ap (set (map f vs) b) (made ∙ ap (λ ys. set ys at (change old)) own))
-    ∙ put_changed key k change new (map f vs) b at old up place (is ∙ ap (λ ys. get_or ys at old) own)
+    let inside : b < length vs = omega (arith, place.block.inside, length-map vs f) in
+    ap joined (block_changed f vs b at w v (change old) inside read made)
+    ∙ put_changed key k change new (map f vs) b at old up place (is ∙ ap (λ ys. get_or ys at old) (read_block f vs b w inside read))

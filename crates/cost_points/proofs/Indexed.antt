@@ -3,15 +3,18 @@ use Rattle.std.proofs.Common.{◌≡◌, ℕ, zero, suc, ◌+◌, ◌<◌, ◌�
 use Rattle.std.specs.Prelude.{slice_get, Some}
 use Rattle.std.specs.List.{insert}
 use Rattle.std.proofs.lemmas.Bool.{cases_lt}
-use Rattle.std.proofs.lemmas.List.{get_or_append_left, get_or-append-add, get_or-map, get_or-take, length-map, length-set, length-take, map-set, set-get_or}
+use Rattle.std.proofs.lemmas.List.{get_or_append_left, get_or-append-add, get_or-map, get_or-take, get_or_default, length-map, length-set, length-take, set-get_or}
 use Rattle.std.proofs.lemmas.List.Edits.{length-insert}
 use Rattle.cost_points.specs.Joined.{IsFilled, joined}
-use Rattle.cost_points.specs.Indexes.{AreIndexed, AreStarts, IsIndexOf}
-use Rattle.cost_points.specs.Places.{IsGapOf, IsPlaceOf, before, behind, cut, with_item}
-use Rattle.cost_points.specs.Keys.{IsRising}
+use Rattle.cost_points.specs.Indexes.{AreIndexed, AreStarts}
+use Rattle.cost_points.specs.Places.{IsGapOf, IsPlaceOf, before, behind, with_changed}
+use Rattle.cost_points.specs.Private.Blocks.{IsIndexOf, IsItemAt, cut, with_item}
+use Rattle.cost_points.specs.Keys.{IsRising, put}
 use Rattle.cost_points.specs.Search.{IsAt}
-use Rattle.cost_points.proofs.InBlocks.{filled_changed, joined_at, read_block, set_same}
-use Rattle.cost_points.proofs.Searched.{the_item}
+use Rattle.cost_points.proofs.InBlocks.{filled_set, joined_at, nowhere, place_at, put_changed, put_new}
+use Rattle.cost_points.proofs.Put.{keys_put}
+use Rattle.cost_points.proofs.Rising.{IsRising-insert}
+use Rattle.cost_points.proofs.Searched.{at_key, the_item}
 
 module _ {A : Type 0} where
   before_suc : (bs : List (List A)) (b : ℕ) → b < length bs → length (before (suc b) bs) ≡ length (before b bs) + length (get_or bs b [])
@@ -99,7 +102,7 @@ module _ {A : Type 0} where
   joined_same (x ∷ bs) zero ys same = omega (arith, same, length-append ys (joined bs), length-append x (joined bs))
   joined_same (x ∷ bs) (suc b) ys same = omega (arith, joined_same bs b ys same, length-append x (joined (set bs b ys)), length-append x (joined bs))
 
-  pub indexed_same : (bs : List (List A)) (count : ℕ) (starts : List ℕ) (b : ℕ) (ys : List A) → AreIndexed bs count starts → length ys ≡ length (get_or bs b []) →
+  indexed_same : (bs : List (List A)) (count : ℕ) (starts : List ℕ) (b : ℕ) (ys : List A) → AreIndexed bs count starts → length ys ≡ length (get_or bs b []) →
       IsFilled (set bs b ys) → AreIndexed (set bs b ys) count starts
   indexed_same bs count starts b ys are same filled = record {
     filled = filled;
@@ -110,6 +113,17 @@ module _ {A : Type 0} where
       each = λ k inside. are.starts_are.each k inside ∙ sym (before_same bs b k ys same);
     };
   }
+
+  -- another item at a place
+  pub indexed_changed : (bs : List (List A)) (count : ℕ) (starts : List ℕ) (b at : ℕ) (a : A) → AreIndexed bs count starts → at < length (get_or bs b []) → AreIndexed (with_changed bs b at a) count starts
+  indexed_changed bs count starts b at a are inside =
+      let items = get_or bs b [] in
+      let long : length (set (get_or bs b []) at a) ≡ length (get_or bs b []) = length-set items at a in
+      indexed_same bs count starts b (set items at a) are long (filled_set bs b (set items at a) are.filled (omega (arith, long, inside)))
+
+  changed_same : (bs : List (List A)) (b at : ℕ) (a : A) → a ≡ get_or (get_or bs b []) at a → with_changed bs b at a ≡ bs
+  changed_same bs b at a read =
+      ap (λ x. with_changed bs b at x) read ∙ ap (set bs b) (set-get_or (get_or bs b []) at a) ∙ set-get_or bs b []
 
   -- an item more keeps where the blocks begin, up to the one that takes it
   starts_kept : (bs cs : List (List A)) (starts : List ℕ) (b : ℕ) → AreStarts bs starts → b < length cs → ((k : ℕ) → k ≤ b → before k cs ≡ before k bs) → AreStarts cs (take (b + 1) starts)
@@ -137,14 +151,6 @@ module _ {A : Type 0} where
         starts_are = starts_kept bs cs starts b are.starts_are inside same;
       }
 
-  pub indexed_kept : (bs cs : List (List A)) (count : ℕ) (starts : List ℕ) (b : ℕ) → AreIndexed bs count starts → IsFilled cs → b < length cs →
-      ((k : ℕ) → k ≤ b → before k cs ≡ before k bs) → joined cs ≡ joined bs → AreIndexed cs count (take (b + 1) starts)
-  indexed_kept bs cs count starts b are filled inside same as_before = record {
-    filled = filled;
-    all = are.all ∙ ap length (sym as_before);
-    starts_are = starts_kept bs cs starts b are.starts_are inside same;
-  }
-
 -- ---- by keys
 -- the item that was found among all
 pub found_at : {B : Type 0} (key : B → ℕ) (bs : List (List B)) (x b at : ℕ) (a : B) → IsPlaceOf key bs x b at → a ≡ get_or (get_or bs b []) at a →
@@ -161,32 +167,36 @@ found_at key bs x b at a place read =
       all.1,
     )
 
--- it is the one that has the key
-pub found_is : {V B : Type 0} (f : V → List B) (key : B → ℕ) (vs : List V) (x b at i : ℕ) (w : V) (found r : B) → IsRising (map key (joined (map f vs))) →
-    IsPlaceOf key (map f vs) x b at → w ≡ get_or vs b w → found ≡ get_or (f w) at found → slice_get (joined (map f vs)) i ≡ Some r → key r ≡ x → found ≡ r
-found_is f key vs x b at i w found r up place read is there same =
-    let own = read_block f vs b w (omega (arith, place.block.inside, length-map vs f)) read in
-    let all = found_at key (map f vs) x b at found place (is ∙ ap (λ ys. get_or ys at found) own) in
-    the_item key (joined (map f vs)) x i (length (before b (map f vs)) + at) r found up there same all.0 all.1
+-- what is done at the place where a search found a key, or where it would go
+module _ {B : Type 0} (key : B → ℕ) (bs : List (List B)) (x y : ℕ) (named : x ≡ y) (b at : ℕ) where
+  -- the key stands nowhere where it would go somewhere
+  pub none_has : (i : ℕ) (r : B) → IsGapOf key bs x b at → slice_get (joined bs) i ≡ Some r → key r ≡ y → ⊥
+  none_has i r gap there is = nowhere key bs x b at i gap (at_key key (joined bs) x i r there (is ∙ sym named))
 
--- an item that stays
-pub item_kept : {V B : Type 0} (f : V → List B) (vs : List V) (b at : ℕ) (w v : V) (old new : B) → b < length vs → w ≡ get_or vs b w → old ≡ get_or (f w) at old →
-    f v ≡ set (f w) at new → new ≡ old → joined (map f (set vs b v)) ≡ joined (map f vs)
-item_kept f vs b at w v old new inside read is made same =
-    ap joined (set_same f vs b w v inside read (made ∙ ap (set (f w) at) (same ∙ is) ∙ set-get_or (f w) at old))
+  module _ (place : IsPlaceOf key bs x b at) (found : B) (read : found ≡ get_or (get_or bs b []) at found) where
+    -- it is the one that has the key
+    pub it_is : (i : ℕ) (r : B) → IsRising (map key (joined bs)) → slice_get (joined bs) i ≡ Some r → key r ≡ y → found ≡ r
+    it_is i r up there is =
+        let all = found_at key bs x b at found place read in
+        the_item key (joined bs) x i (length (before b bs) + at) r found up there (is ∙ sym named) all.0 all.1
 
--- blocks of which one item changes
-pub indexed_changed : {V B : Type 0} (f : V → List B) (key : B → ℕ) (vs : List V) (count : ℕ) (starts : List ℕ) (x b at : ℕ) (w v : V) (new : B) →
-    AreIndexed (map f vs) count starts → IsPlaceOf key (map f vs) x b at → w ≡ get_or vs b w → f v ≡ set (f w) at new → AreIndexed (map f (set vs b v)) count starts
-indexed_changed f key vs count starts x b at w v new are place read made =
-    let own = read_block f vs b w (omega (arith, place.block.inside, length-map vs f)) read in
-    subst (λ bs. AreIndexed bs count starts) (sym (map-set f vs b v))
-    (indexed_same (map f vs) count starts b (f v) are (ap length made ∙ length-set (f w) at new ∙ ap length own)
-    (subst IsFilled (map-set f vs b v) (filled_changed f key vs x b at w v new are.filled place read made)))
+    -- it changes
+    pub it_changes : (change : B → B) (new made : B) → IsRising (map key (joined bs)) → made ≡ change found → joined (with_changed bs b at made) ≡ put key y change new (joined bs)
+    it_changes change new made up is =
+        ap (λ a. joined (with_changed bs b at a)) is ∙ put_changed key x change new bs b at found up place read ∙ ap (λ k. put key k change new (joined bs)) named
 
--- a place and a gap, in the same blocks by another name
-pub placed : {V B : Type 0} (f : V → List B) (key : B → ℕ) (vs ws : List V) (x y b at : ℕ) → vs ≡ ws → x ≡ y → IsPlaceOf key (map f vs) x b at → IsPlaceOf key (map f ws) y b at
-placed f key vs ws x y b at same named place = subst (λ us. IsPlaceOf key (map f us) y b at) same (subst (λ z. IsPlaceOf key (map f vs) z b at) named place)
+-- an item that is there
+pub there_already : {B : Type 0} (key : B → ℕ) (bs : List (List B)) (x y : ℕ) (named : x ≡ y) (b at : ℕ) (d : B) → IsRising (map key (joined bs)) → IsPlaceOf key bs x b at → joined bs ≡ put key y (λ a. a) d (joined bs)
+there_already key bs x y named b at d up place =
+    let found = get_or (get_or bs b []) at d in
+    let read : get_or (get_or bs b []) at d ≡ get_or (get_or bs b []) at (get_or (get_or bs b []) at d) =
+    get_or_default (get_or bs b []) at d found (omega (arith, place.here.in_range, length-map (get_or bs b []) key)) in
+    sym (ap joined (changed_same bs b at found read)) ∙ it_changes key bs x y named b at place found read (λ a. a) d found up refl
 
-pub gapped : {V B : Type 0} (f : V → List B) (key : B → ℕ) (vs ws : List V) (x y b at : ℕ) → vs ≡ ws → x ≡ y → IsGapOf key (map f vs) x b at → IsGapOf key (map f ws) y b at
-gapped f key vs ws x y b at same named gap = subst (λ us. IsGapOf key (map f us) y b at) same (subst (λ z. IsGapOf key (map f vs) z b at) named gap)
+-- an item more, and where it stands
+pub more_at : {B : Type 0} (key : B → ℕ) (bs cs : List (List B)) (a : B) (b at p q : ℕ) → IsRising (map key (joined bs)) → IsGapOf key bs (key a) b at → joined cs ≡ with_item bs b at a → IsItemAt cs p q a → IsPlaceOf key cs (key a) p q
+more_at key bs cs a b at p q up gap made stands =
+    place_at key cs p q a (key a)
+    (subst (λ ys. IsRising (map key ys)) (sym (made ∙ put_new key (key a) (λ x. x) a bs b at gap))
+    (subst IsRising (sym (keys_put key (key a) (λ x. x) a refl (λ x. refl) (joined bs))) (IsRising-insert (key a) (map key (joined bs)) up)))
+    stands.block stands.inside (ap key (stands.here a))

@@ -1,5 +1,5 @@
 -- A point takes in another of its size: the points of two lists of activations are those of both together.
-use Rattle.std.proofs.Common.{◌≡◌, ℕ, ◌+◌, ◌*◌, ◌<◌, ◌≤◌, ◌^◌, List, [], ◌∷◌, ◌++◌, length, get_or, map, min, max, sum, Result, Ok, Err, OnOk, true, is_some, Option, Some, None, refl, sym, ap, ap₂, ◌∙◌, subst, arith, length-append}
+use Rattle.std.proofs.Common.{◌≡◌, ℕ, ◌+◌, ◌*◌, ◌<◌, ◌≤◌, ◌^◌, List, [], ◌∷◌, ◌++◌, length, map, min, max, sum, Result, Ok, Err, OnOk, true, is_some, Option, Some, None, refl, sym, ap, ap₂, ◌∙◌, subst, arith, length-append}
 use Rattle.std.specs.Prelude.{IfSome}
 use Rattle.std.specs.List.{All, fold}
 use Rattle.std.proofs.lemmas.List.{length-map, map-append}
@@ -14,7 +14,7 @@ use Rattle.cost_points.specs.Contents.{IsCounted, TableContents, contents_of}
 use Rattle.cost_points.specs.Keys.{IsRising, grouped, put}
 use Rattle.cost_points.specs.Merging.{ArePointOf, merged, point_added, split_both, split_sum, with_point}
 use Rattle.cost_points.specs.Points.{Routine, greatest_of, least_of, point_of, points, routine_of, split_of}
-use Rattle.cost_points.specs.Search.{HasRoom, HasSplitRoom, IsAt}
+use Rattle.cost_points.specs.Search.{HasRoom, HasSplitRoom}
 use Rattle.cost_points.specs.Valid.{IsPoint, IsProfile, IsRoutine, IsSplit}
 use Rattle.cost_points.proofs.Put.{grouped_put, keys_put, length-put, put-all, put-both, some-put}
 use Rattle.cost_points.proofs.Bounds.{IsPoint-of}
@@ -225,12 +225,7 @@ HasRoom-of p m few is counted = record {
 pub rooms-of : (m : ℕ) (routines : List Routine) → m < 2 ^ 63 → IsProfile routines → All (λ r. All (IsCounted m) r.points) routines → All (λ r. All HasRoom r.points) routines
 rooms-of m routines few profile counted = λ i d inside j e within. HasRoom-of _ m few ((profile.each i d inside).each j e within) (counted i d inside j e within)
 
--- ---- what stands at a place
-pub at_item : {B : Type 0} (key : B → ℕ) (P : B → Type 0) (items : List B) (x i : ℕ) (b : B) → IsAt (map key items) x i → b ≡ get_or items i b → All P items → P b
-at_item key P items x i b place read each =
-    let inside : i < length items = omega (arith, place.in_range, length-map items key) in
-    subst P (sym read) (each i b inside)
-
+-- ---- a routine of one point
 pub on_ok : {T E : Type 0} (r : Result T E) (P Q : Type 0) → OnOk r P → (P → Q) → OnOk r Q
 on_ok (Ok x) P Q p last = last p
 on_ok (Err e) P Q p last = tt

@@ -80,14 +80,3 @@ IsRising-insert x (y ∷ ys) up = elim (order x y) [
 pub IsRising-rising : (xs : List ℕ) → IsRising (rising xs)
 IsRising-rising [] = λ i j lt inside. absurd (omega arith)
 IsRising-rising (x ∷ xs) = IsRising-insert x (rising xs) (IsRising-rising xs)
-
--- a key between the smaller and the greater ones
-pub insert_gap : (front back : List ℕ) (x : ℕ) → All (λ k. k < x) front → All (λ k. x < k) back → insert_rising x (front ++ back) ≡ front ++ x ∷ back
-insert_gap [] [] x low high = refl
-insert_gap [] (b ∷ back) x low high = insert_below x b back (All-head (λ k. x < k) b back high)
-insert_gap (a ∷ front) back x low high = insert_above x a (front ++ back) (All-head (λ k. k < x) a front low) ∙ ap (λ ks. a ∷ ks) (insert_gap front back x (All-tail (λ k. k < x) a front low) high)
-
--- a key that is there already
-pub insert_there : (front back : List ℕ) (x : ℕ) → All (λ k. k < x) front → insert_rising x (front ++ x ∷ back) ≡ front ++ x ∷ back
-insert_there [] back x low = insert_same x x back refl
-insert_there (a ∷ front) back x low = insert_above x a (front ++ x ∷ back) (All-head (λ k. k < x) a front low) ∙ ap (λ ks. a ∷ ks) (insert_there front back x (All-tail (λ k. k < x) a front low))

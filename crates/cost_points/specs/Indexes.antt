@@ -1,5 +1,5 @@
 -- Items in blocks by their index among all.
-use Rattle.std.specs.Prelude.{◌≡◌, ℕ, ◌+◌, ◌<◌, ◌≤◌, List, [], get_or, length, slice_index}
+use Rattle.std.specs.Prelude.{◌≡◌, ℕ, ◌<◌, ◌≤◌, List, length, slice_index}
 use Rattle.cost_points.specs.Joined.{IsFilled, joined}
 use Rattle.cost_points.specs.Places.{before}
 
@@ -14,9 +14,3 @@ pub record AreIndexed {A : Type 0} (bs : List (List A)) (count : ℕ) (starts : 
   pub filled : IsFilled bs
   pub all : count ≡ length (joined bs)
   pub starts_are : AreStarts bs starts
-
--- The item of an index stands at a place of block b.
-pub record IsIndexOf {A : Type 0} (bs : List (List A)) (i b at : ℕ) : Type 0 where
-  pub block : b < length bs
-  pub inside : at < length (get_or bs b [])
-  pub index : length (before b bs) + at ≡ i

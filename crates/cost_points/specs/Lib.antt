@@ -6,6 +6,7 @@ pub mod Search
 pub mod Joined
 pub mod Places
 pub mod Indexes
+pub mod LentItem
 pub mod Contents
 pub mod Valid
 pub mod Private

@@ -1,2 +1,2 @@
 -- What private functions promise one another. No public clause rests on it.
-pub mod Kept
+pub mod Blocks

@@ -1,7 +1,8 @@
 //! Items by rising key, in blocks: one more moves the rest of a block, and no other item.
 ghost use Rattle.std.specs.Prelude.{◌≡◌, ◌<◌, ◌≤◌, [], ℕ, get_or, length, map, IfOk, MatchResult, OnErr, OnOk};
 ghost use Rattle.cost_points.specs.Joined.{IsFilled, joined};
-ghost use Rattle.cost_points.specs.Places.{IsBetween, IsBlockOf, IsGapOf, IsItemAt, IsPlaceOf, before, cut, with_item};
+ghost use Rattle.cost_points.specs.Places.{IsBlockOf, IsGapOf, IsPlaceOf, before};
+ghost use Rattle.cost_points.specs.Private.Blocks.{IsItemAt, cut, with_item};
 ghost use Rattle.cost_points.specs.Keys.{IsRising};
 ghost use Rattle.cost_points.specs.Search.{FindsKey};
 
@@ -78,10 +79,9 @@ pub(crate) fn search<T: Keyed>(blocks: &[Vec<T>], key: u64) -> Result<Place, Pla
     }
 }
 
-/// Where the key stands, or where it would go. The place where a key was found last is tried first; it becomes the place where
-/// this one is found.
+/// Where the key stands, or where it would go. The place of the item that was changed last is tried first.
 #[inline(always)]
-pub fn find<T: Keyed>(blocks: &[Vec<T>], last: &mut Place, key: u64) -> Result<Place, Place>
+pub(crate) fn find<T: Keyed>(blocks: &[Vec<T>], last: Place, key: u64) -> Result<Place, Place>
     requires filled { IsFilled (map (λ b. b.items) blocks.now) }
     requires rising { IsRising (map T.key_of (joined (map (λ b. b.items) blocks.now))) }
     ensures { MatchResult result
@@ -91,14 +91,10 @@ pub fn find<T: Keyed>(blocks: &[Vec<T>], last: &mut Place, key: u64) -> Result<P
     if last.block < blocks.len() {
         let block = &blocks[last.block];
         if last.at < block.len() && block[last.at].key() == key {
-            return Ok(*last);
+            return Ok(last);
         }
     }
-    let found = search(blocks, key);
-    if let Ok(place) = found {
-        *last = place;
-    }
-    found
+    search(blocks, key)
 }
 
 // Cuts a block in two. A refusal changes no item.
@@ -113,7 +109,7 @@ fn cut_block<T: Drop>(blocks: &mut Vec<Vec<T>>, b: usize) -> Result<(), AllocErr
     blocks.reserve(1)?;
     let block = &mut blocks[b];
     let upper = block.split_off(HALF)?;
-    let _ = blocks.insert(b + 1, upper);
+    blocks.insert(b + 1, upper).unwrap();
     Ok(())
 }
 
@@ -147,7 +143,11 @@ fn shorten<T: Drop>(blocks: &mut Vec<Vec<T>>, place: Place) -> Result<Place, All
 }
 
 /// One item more, at a place, and where it stands then. A refusal changes no item.
-pub fn insert<T: Drop>(blocks: &mut Vec<Vec<T>>, place: Place, item: T) -> Result<Place, AllocError>
+pub(crate) fn insert<T: Drop>(
+    blocks: &mut Vec<Vec<T>>,
+    place: Place,
+    item: T,
+) -> Result<Place, AllocError>
     requires inside { place.block < length blocks.old.items }
     requires at { place.at ≤ length (get_or (map (λ v. v.items) blocks.old.items) place.block []) }
     requires filled { IsFilled (map (λ v. v.items) blocks.old.items) }

@@ -2,7 +2,8 @@
 //! item shortens it to the block that takes the item, and `extend` makes it the list of all blocks.
 ghost use Rattle.std.specs.Prelude.{◌≡◌, ◌+◌, ◌<◌, ◌≤◌, length, map, slice_index, OnOk};
 ghost use Rattle.cost_points.specs.Joined.{joined};
-ghost use Rattle.cost_points.specs.Indexes.{AreStarts, IsIndexOf};
+ghost use Rattle.cost_points.specs.Indexes.{AreStarts};
+ghost use Rattle.cost_points.specs.Private.Blocks.{IsIndexOf};
 
 use crate::blocks::Place;
 use std::alloc::AllocError;
@@ -29,7 +30,7 @@ fn known_block(starts: &[usize], i: usize) -> usize
 }
 
 /// The place of an index.
-pub fn place_of<T>(blocks: &[Vec<T>], starts: &[usize], i: usize) -> Place
+pub(crate) fn place_of<T>(blocks: &[Vec<T>], starts: &[usize], i: usize) -> Place
     requires starts { AreStarts (map (λ b. b.items) blocks.now) starts.now }
     requires inside { i < length (joined (map (λ b. b.items) blocks.now)) }
     ensures { IsIndexOf (map (λ b. b.items) blocks.now) i result.block result.at }
@@ -44,7 +45,11 @@ pub fn place_of<T>(blocks: &[Vec<T>], starts: &[usize], i: usize) -> Place
 }
 
 /// Where all blocks begin, from where some do. A refusal keeps what is known.
-pub fn extend<T>(blocks: &[Vec<T>], count: usize, starts: &mut Vec<usize>) -> Result<(), AllocError>
+pub(crate) fn extend<T>(
+    blocks: &[Vec<T>],
+    count: usize,
+    starts: &mut Vec<usize>,
+) -> Result<(), AllocError>
     requires starts { AreStarts (map (λ b. b.items) blocks.now) starts.old.items }
     requires count { count ≡ length (joined (map (λ b. b.items) blocks.now)) }
     ensures starts { AreStarts (map (λ b. b.items) blocks.now) starts.new.items }

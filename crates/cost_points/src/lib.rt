@@ -4,14 +4,17 @@
 //! added to it.
 #![tactic(auto)]
 
-pub mod blocks;
-pub mod indexes;
+mod blocks;
+mod by_key;
+mod indexes;
 mod point;
 mod routine;
 mod routines;
 mod sorted;
 mod table;
 
+pub use blocks::{Keyed, Place};
+pub use by_key::ByKey;
 pub use point::{Point, Split};
 pub use sorted::{SortedPoints, insert_point};
 pub use table::Table;

@@ -20,7 +20,7 @@ use trace_model::Done;
 #[derive(Drop)]
 pub struct SortedPoints {
     points: Vec<Vec<Point>>,
-    // The place of the point that was found last.
+    // The place of the point that was changed last.
     last: Place,
 }
 
@@ -66,12 +66,12 @@ pub fn insert_point(points: &mut Vec<Point>, point: Point)
     match search(points, point.size) {
         Ok(at) => points[at] = points[at].merged(point),
         Err(at) => {
-            let _ = points.insert(at, point);
+            points.insert(at, point).unwrap();
         }
     }
 }
 
-// One more point among blocks of points, the last of which was found at a place.
+// One more point among blocks of points, the last of which was changed at a place.
 fn add_to(points: &mut Vec<Vec<Point>>, last: &mut Place, point: Point) -> Result<(), AllocError>
     requires filled { IsFilled (map (λ b. b.items) points.old.items) }
     requires rising { IsRising (map (λ p. p.size) (joined (map (λ b. b.items) points.old.items))) }
@@ -86,8 +86,9 @@ fn add_to(points: &mut Vec<Vec<Point>>, last: &mut Place, point: Point) -> Resul
     ensures no_allocation { (place : ℕ) → IsAt (map (λ p. p.size) (joined (map (λ b. b.items) points.old.items)))
         point.size place → IsOk result }
 {
-    match blocks::find(points, last, point.size) {
+    match blocks::find(points, *last, point.size) {
         Ok(place) => {
+            *last = place;
             let block = &mut points[place.block];
             block[place.at] = block[place.at].merged(point);
             Ok(())
@@ -99,7 +100,7 @@ fn add_to(points: &mut Vec<Vec<Point>>, last: &mut Place, point: Point) -> Resul
     }
 }
 
-// One more activation among blocks of points, the last of which was found at a place.
+// One more activation among blocks of points, the last of which was changed at a place.
 #[inline(always)]
 fn add_one(points: &mut Vec<Vec<Point>>, last: &mut Place, ended: &Done) -> Result<(), AllocError>
     requires filled { IsFilled (map (λ b. b.items) points.old.items) }
@@ -114,8 +115,9 @@ fn add_one(points: &mut Vec<Vec<Point>>, last: &mut Place, ended: &Done) -> Resu
     ensures no_allocation { (place : ℕ) → IsAt (map (λ p. p.size) (joined (map (λ b. b.items) points.old.items)))
         ended.now.size place → IsOk result }
 {
-    match blocks::find(points, last, ended.size) {
+    match blocks::find(points, *last, ended.size) {
         Ok(place) => {
+            *last = place;
             let block = &mut points[place.block];
             let point = &mut block[place.at];
             point.add_one(ended);

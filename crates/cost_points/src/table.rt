@@ -10,8 +10,8 @@ ghost use Rattle.cost_points.specs.Points.{Routine, point_of};
 ghost use Rattle.cost_points.specs.Contents.{contents_of};
 ghost use Rattle.cost_points.specs.Valid.{IsPoint, IsProfile};
 
-use crate::Point;
-use crate::routines::Routines;
+use crate::routine::RoutinePoints;
+use crate::{ByKey, Point, routines};
 use guest_words::Addr;
 use std::alloc::{AllocError, Global};
 use std::marker::Model;
@@ -23,26 +23,24 @@ use trace_model::Done;
 pub struct Table {
     alloc: Global,
     members: u64,
-    routines: Routines,
+    routines: ByKey<RoutinePoints>,
 }
 
 impl Model for Table {
-    ghost use Rattle.std.specs.Prelude.{map};
     ghost use Rattle.cost_points.specs.Joined.{joined};
     ghost use Rattle.cost_points.specs.Contents.{TableContents, IsContents};
-    ghost use Rattle.cost_points.specs.Indexes.{AreIndexed};
 
     ghost Value = { TableContents };
 
     ghost view = { λ t. record {
       members = t.members;
-      routines = joined (map (λ b. b.items) t.routines.blocks.items);
+      routines = joined t.routines;
     } };
 
     ghost invariant = { λ t. IsContents (record {
       members = t.members;
-      routines = joined (map (λ b. b.items) t.routines.blocks.items);
-    }) × AreIndexed (map (λ b. b.items) t.routines.blocks.items) t.routines.count t.routines.starts.items };
+      routines = joined t.routines;
+    }) };
 }
 
 impl Table {
@@ -53,7 +51,7 @@ impl Table {
         Ok(Table {
             alloc,
             members: 0,
-            routines: Routines::new(alloc)?,
+            routines: ByKey::new(alloc)?,
         })
     }
 
@@ -90,7 +88,7 @@ impl Table {
             → IsOk result }
     {
         let (_size, _cost) = (ended.size, ended.cost); // so that they are known to be of 64 bits
-        self.routines.add_one(self.alloc, ended)?;
+        routines::add_one(&mut self.routines, self.alloc, ended)?;
         self.members += 1;
         Ok(())
     }
@@ -110,7 +108,7 @@ impl Table {
             → r.entry ≡ entry → IsAt (map (λ q. q.size) r.points) p.now.size place → IsOk result }
     {
         let point = *p;
-        self.routines.add(self.alloc, entry, point)?;
+        routines::add(&mut self.routines, self.alloc, entry, point)?;
         self.members += point.calls;
         Ok(())
     }
@@ -127,7 +125,7 @@ impl Table {
         ensures count { result ≡ length self.now.routines }
         ensures profile { IsProfile self.now.routines }
     {
-        self.routines.count
+        self.routines.len()
     }
 
     /// Makes looking up routines by their index quick: logarithmic in their number, until a new one comes. Without it, a look-up
@@ -144,6 +142,8 @@ impl Table {
         ensures { IfOk result (λ r. slice_get self.now.routines i
             ≡ Some (record { entry = r.0; points = r.1.items })) }
     {
-        self.routines.routine(alloc, i)
+        let routine = self.routines.get(i);
+        let points = routine.points(alloc)?;
+        Ok((routine.entry, points))
     }
 }

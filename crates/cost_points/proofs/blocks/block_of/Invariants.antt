@@ -1,5 +1,5 @@
 use Rattle.std.proofs.Common.{◌-◌, map}
-use Rattle.cost_points.specs.Places.{IsBetween}
+use Rattle.cost_points.specs.Private.Blocks.{IsBetween}
 use Rattle.cost_points.proofs.blocks.block_of.Given as goal
 
 abbrev pub invariant-halve : goal.invariant-halve

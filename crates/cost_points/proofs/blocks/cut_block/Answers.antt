@@ -1,6 +1,6 @@
 use Rattle.std.proofs.Common.{◌≡◌, ◌<◌, ap, arith, cond, length, map, refl, ◌∙◌, Result, Ok, Err, IsOk}
 use Rattle.std.specs.Prelude.{is_ok}
-use Rattle.cost_points.specs.Places.{cut}
+use Rattle.cost_points.specs.Private.Blocks.{cut}
 use Rattle.cost_points.proofs.InBlocks.{cut_made}
 use Rattle.cost_points.proofs.blocks.cut_block.Goals as goal
 

@@ -6,8 +6,8 @@ use Rattle.cost_points.proofs.blocks.find.Goals as goal
 pub returns-then-key : goal.returns-then-key
 returns-then-key g c =
     let key = g.T.Keyed.key_of in
-    let b = c.args.last.now.block in
-    let at = c.args.last.now.at in
+    let b = c.args.last.block in
+    let at = c.args.last.at in
     let a = c.index.result.now in
     let own = read_block (λ v. v.items) c.args.blocks.now b c.index-blocks-last.result c.if-last-blocks.true c.index-blocks-last.is in
     place_at key (map (λ v. v.items) c.args.blocks.now) b at a c.args.key c.requires.rising

@@ -1,7 +1,8 @@
 use Rattle.std.proofs.Common.{ℕ, ◌≡◌, ◌+◌, ◌-◌, ◌<◌, ◌≤◌, [], suc, List, ap, arith, get_or, length, map, rules, subst, sym, ◌∙◌}
 use Rattle.std.proofs.lemmas.List.{length-drop, length-map, length-take-le}
 use Rattle.cost_points.specs.Joined.{IsFilled, joined}
-use Rattle.cost_points.specs.Places.{before, with_item}
+use Rattle.cost_points.specs.Places.{before}
+use Rattle.cost_points.specs.Private.Blocks.{with_item}
 use Rattle.cost_points.proofs.InBlocks.{filled_cut, joined_cut, length-cut, lower_half, read_block, upper_half, with_item_high, with_item_low}
 use Rattle.cost_points.proofs.Indexed.{before_cut}
 use Rattle.cost_points.proofs.blocks.shorten.Goals as goal

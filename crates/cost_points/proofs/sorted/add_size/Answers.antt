@@ -1,6 +1,6 @@
 use Rattle.std.proofs.Common.{[], ◌∷◌, ap, map, ◌∙◌}
 use Rattle.cost_points.specs.declared.point.Point.{Point}
-use Rattle.cost_points.specs.Places.{with_item}
+use Rattle.cost_points.specs.Private.Blocks.{with_item}
 use Rattle.cost_points.specs.Merging.{merged}
 use Rattle.cost_points.specs.Points.{point_of}
 use Rattle.cost_points.proofs.InBlocks.{put_new}

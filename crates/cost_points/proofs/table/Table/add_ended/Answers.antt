@@ -1,4 +1,4 @@
-use Rattle.std.proofs.Common.{◌≡◌, ◌+◌, ◌<◌, ◌^◌, [], ◌∷◌, true, is_some, List, length, map, ◌≤◌, ap, refl, sym, ◌∙◌, subst, rules}
+use Rattle.std.proofs.Common.{◌≡◌, ◌+◌, ◌<◌, ◌^◌, [], ◌∷◌, true, is_some, List, length, ◌≤◌, ap, refl, sym, ◌∙◌, subst, rules}
 use Rattle.std.specs.List.{All}
 use Rattle.cost_points.specs.Contents.{IsCounted, TableContents}
 use Rattle.cost_points.specs.Joined.{joined}
@@ -17,21 +17,19 @@ invariant_of-self-2 c =
     let cheap : c.args.ended.now.cost < 2 ^ 64 = search rules in
     let told : is_some p.split ≡ true = refl in
     let of_p : IsPoint p = one_is_point c.args.ended.now c.requires.parts in
-    let routines = joined (map (λ b. b.items) c.self.inside.routines.blocks.items) in (
-      record {
-        profile = subst IsProfile (sym ok) (IsProfile-with p told of_p c.args.ended.now.entry routines c.self.invariant.0.profile);
-        few = subst (λ (rs : List Routine). length rs ≤ c.self.inside.members + 1) (sym ok)
-            (few-with p c.args.ended.now.entry m (m + 1) routines of_p.some refl c.self.invariant.0.few);
-        counted = subst (All (λ (r : Routine). All (IsCounted (c.self.inside.members + 1)) r.points)) (sym ok)
-            (counted-with p m (m + 1) refl small cheap c.args.ended.now.entry routines c.self.invariant.0.counted);
-      },
-      c.add_one.ensures.indexed,
-    )
+    let routines = joined c.self.inside.routines in
+    record {
+      profile = subst IsProfile (sym ok) (IsProfile-with p told of_p c.args.ended.now.entry routines c.self.invariant.profile);
+      few = subst (λ (rs : List Routine). length rs ≤ c.self.inside.members + 1) (sym ok)
+          (few-with p c.args.ended.now.entry m (m + 1) routines of_p.some refl c.self.invariant.few);
+      counted = subst (All (λ (r : Routine). All (IsCounted (c.self.inside.members + 1)) r.points)) (sym ok)
+          (counted-with p m (m + 1) refl small cheap c.args.ended.now.entry routines c.self.invariant.counted);
+    }
 
 pub add_one-requires-clause-room : goal.add_one-requires-clause-room
 add_one-requires-clause-room c =
-    rooms-of c.self.inside.members (joined (map (λ b. b.items) c.self.inside.routines.blocks.items))
-    (subst (λ (t : TableContents). t.members < 2 ^ 63) (sym c.self.view_is) c.requires.few) c.self.invariant.0.profile c.self.invariant.0.counted
+    rooms-of c.self.inside.members (joined c.self.inside.routines)
+    (subst (λ (t : TableContents). t.members < 2 ^ 63) (sym c.self.view_is) c.requires.few) c.self.invariant.profile c.self.invariant.counted
 
 pub returns-clause-ok : goal.returns-clause-ok
 returns-clause-ok c = λ added is.

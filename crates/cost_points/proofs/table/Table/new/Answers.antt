@@ -10,14 +10,11 @@ use Rattle.cost_points.proofs.Tables.{points_none, contents_same}
 use Rattle.cost_points.proofs.table.Table.new.Goals as goal
 
 pub invariant_of-result : goal.invariant_of-result
-invariant_of-result c = (
-  record {
-    profile = subst IsProfile (sym (c.in_ok-new.ensures.none ∙ points_none)) (IsProfile-points [] (All-nil HasParts));
-    few = omega (arith, ap length c.in_ok-new.ensures.none);
-    counted = subst (All (λ (r : Routine). All (IsCounted 0) r.points)) (sym c.in_ok-new.ensures.none) (All-nil (λ (r : Routine). All (IsCounted 0) r.points));
-  },
-  c.in_ok-new.ensures.indexed,
-)
+invariant_of-result c = record {
+  profile = subst IsProfile (sym (c.in_ok-new.ensures ∙ points_none)) (IsProfile-points [] (All-nil HasParts));
+  few = omega (arith, ap length c.in_ok-new.ensures);
+  counted = subst (All (λ (r : Routine). All (IsCounted 0) r.points)) (sym c.in_ok-new.ensures) (All-nil (λ (r : Routine). All (IsCounted 0) r.points));
+}
 
 pub returns : goal.returns
-returns c = contents_same _ _ _ _ refl (c.in_ok-new.ensures.none ∙ points_none)
+returns c = contents_same _ _ _ _ refl (c.in_ok-new.ensures ∙ points_none)
