@@ -7,7 +7,7 @@ use Rattle.std.proofs.lemmas.Bool.Decides.{nat_tests}
 use Rattle.cache_lines.specs.Shapes.{Dimensions}
 use Rattle.cache_lines.specs.Kept.{recent}
 use Rattle.cache_lines.specs.Misses.{was_accessed, since, of_set, different, misses}
-use Rattle.cache_lines.specs.Sets.{without, touched}
+use Rattle.cache_lines.specs.Private.Recency.{without, touched}
 
 other : (m n : ℕ) → nat_eq m n ≡ false → not (nat_eq n m) ≡ true
 other m n e = grind (arith, nat_tests)

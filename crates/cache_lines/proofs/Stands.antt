@@ -13,7 +13,8 @@ use Rattle.cache_lines.specs.declared.shape.TheConstants.{SETS, WAYS, LEAST_LINE
 use Rattle.cache_lines.specs.Held.{Held}
 use Rattle.cache_lines.specs.Kept.{recent, CacheStandsFor}
 use Rattle.cache_lines.specs.Misses.{was_accessed, misses, different}
-use Rattle.cache_lines.specs.Sets.{lines_of, touched}
+use Rattle.cache_lines.specs.Sets.{lines_of}
+use Rattle.cache_lines.specs.Private.Recency.{touched}
 use Rattle.cache_lines.proofs.Recent.{misses_is, recent_is, others_stay}
 use Rattle.cache_lines.proofs.Rows.{length-lines_of, none-lines_of, at-lines_of, set-lines_of, written}
 

@@ -9,7 +9,7 @@ use Rattle.std.proofs.lemmas.Bool.{cases_lt, or_parts}
 use Rattle.std.proofs.lemmas.Bool.Decides.{nat_tests}
 use Rattle.std.proofs.Math.Seq.{take-nil}
 use Rattle.cache_lines.specs.Misses.{was_accessed}
-use Rattle.cache_lines.specs.Sets.{without, touched}
+use Rattle.cache_lines.specs.Private.Recency.{without, touched}
 use Rattle.cache_lines.proofs.Recent.{without_same, without_other}
 
 lt-suc : (a b : ℕ) → nat_lt (1 + a) (suc b) ≡ nat_lt a b

@@ -4,3 +4,4 @@ pub mod Misses
 pub mod Places
 pub mod Sets
 pub mod Shapes
+pub mod Private

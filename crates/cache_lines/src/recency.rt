@@ -2,7 +2,7 @@
 ghost use Rattle.std.specs.Prelude.{◌≡◌, ◌==◌, ◌+◌, ◌-◌, ◌≤◌, ◌++◌, ◌∷◌, not, length, take, drop};
 ghost use Rattle.std.specs.List.{position};
 ghost use Rattle.cache_lines.specs.Misses.{was_accessed};
-ghost use Rattle.cache_lines.specs.Sets.{touched};
+ghost use Rattle.cache_lines.specs.Private.Recency.{touched};
 
 // The place of the line, if it is one of them.
 fn place_of(lines: &[u32], line: u32) -> Option<usize>

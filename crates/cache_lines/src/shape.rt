@@ -42,8 +42,8 @@ impl Model for Shape {
 }
 
 impl Shape {
-    /// The shape of these numbers. None where the sets are no power of two up to `SETS`, the ways none of 1 to `WAYS`, or the
-    /// bytes of a line no power of two from `LEAST_LINE` to `LINE`.
+    /// The shape of these numbers, where the number of sets is a power of two up to `SETS`, that of ways is 1 to `WAYS`, and
+    /// the bytes of a line are a power of two from `LEAST_LINE` to `LINE`. Otherwise None.
     pub fn new(sets: u32, ways: u32, line: u32) -> Option<Shape>
         ensures { result ≡ shape_of sets ways line }
     {

@@ -5,7 +5,7 @@ use Rattle.std.specs.Str.{bytes_eq}
 use Rattle.clap.specs.Words.{Row, Text, all_of, first_of}
 use Rattle.stamps.specs.declared.width.StampBits.{StampBits}
 use Rattle.command_line.specs.Options.{Analysis, Replay, analysis_of_rows, asked_of_rows, bits_of, budget_of, guest_asked_of_rows, guest_asked_with, guest_of_rows, guest_with, has_flag, quantum_of, replay_of_rows, replay_with, run_with, shape_said}
-use Rattle.command_line.specs.Plain.{Choice, GuestCommand, PlainOptionsAreRead, PlainReplayIsRead, analysis_given, budget, caching, given, guest_given, guest_words, id_of, is_chosen, line, quantum, recording, replay_words, report, run_given, running, schedule, sets, stamps, stats, stdin, telling, tracing, value_of, ways}
+use Rattle.command_line.specs.Plain.{Choice, GuestCommand, PlainOptionsAreRead, PlainReplayIsRead, analysis_given, budget, caching, given, guest_given, guest_words, id_of, is_chosen, line, quantum, recording, replay_words, report, run_given, running, schedule, sets, stamps, stats, stdin, telling_contexts, tracing, value_of, ways}
 use Rattle.command_line.specs.Plain as plain
 use Rattle.command_line.proofs.Refusals.{asked_is, read_of}
 use Rattle.command_line.proofs.PlainWords.{all_rows, end_rows, plain_subcommand, rows_are}
@@ -159,8 +159,8 @@ analysis_read caching choices image words =
     (ap₂ (λ sets ways. shape_said sets ways (first_of (codes "line") rows))
     (option_read k (codes "sets") choices image words (refl, refl, refl, refl)) (option_read k (codes "ways") choices image words (refl, refl, refl, refl))
     ∙ ap (shape_said (given (codes "sets") choices) (given (codes "ways") choices)) (option_read k (codes "line") choices image words (refl, refl, refl, refl)))
-analysis_read telling choices image words =
-    ap (λ text. option_map Analysis.Contexts (bits_of text)) (option_read (of_guest telling) (codes "stamps") choices image words (refl, refl, refl, refl))
+analysis_read telling_contexts choices image words =
+    ap (λ text. option_map Analysis.Contexts (bits_of text)) (option_read (of_guest telling_contexts) (codes "stamps") choices image words (refl, refl, refl, refl))
 
 -- what a command that runs a guest asks for by its rows
 pub asked_by_name : (g : GuestCommand) (rows : List Row) → asked_of_rows (plain.name_of g) rows ≡ guest_asked_of_rows (plain.name_of g) rows

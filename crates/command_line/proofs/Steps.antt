@@ -17,7 +17,7 @@ use Rattle.clap.specs.Words.{Row, Rule, Shape, Text, built}
 use Rattle.clap.specs.declared.builder.ArgAction.TheVariants.{Set}
 use Rattle.clap.proofs.OnLiterals.{clap_on_literals}
 use Rattle.command_line.specs.App.{the_app, top_app, guest_app, demo_app, replay_app, word_rule}
-use Rattle.command_line.specs.Plain.{Choice, GuestCommand, budget, caching, id_of, is_of, is_of_replay, is_plain_word, line, quantum, recording, report, required, running, schedule, sets, stamps, stats, stdin, telling, tracing, ways, words_of}
+use Rattle.command_line.specs.Plain.{Choice, GuestCommand, budget, caching, id_of, is_of, is_of_replay, is_plain_word, line, quantum, recording, report, required, running, schedule, sets, stamps, stats, stdin, telling_contexts, tracing, ways, words_of}
 use Rattle.command_line.specs.Plain as plain
 use Rattle.command_line.proofs.Rows.{choice_row, if_unset, new_row, new_row_kept, plain_row, unset_rows}
 
@@ -45,7 +45,7 @@ abbrev pub guest_shape : GuestCommand → Shape
 guest_shape running = run_shape
 guest_shape tracing = trace_shape
 guest_shape caching = cache_shape
-guest_shape telling = contexts_shape
+guest_shape telling_contexts = contexts_shape
 
 -- what all of them have, and what one has beside
 abbrev pub shared_rules : List Rule
@@ -220,7 +220,7 @@ pub replay_takes_stamps : TakesValue replaying (codes "--stamps") (codes "stamps
 unfolding the_app top_app guest_app demo_app replay_app clap_on_literals
 replay_takes_stamps = takes_value refl (takes_one refl refl refl refl refl (λ word. refl)) (λ rows p. refl) (λ rows p. and-true _)
 
-pub contexts_takes_stamps : TakesValue (of_guest telling) (codes "--stamps") (codes "stamps")
+pub contexts_takes_stamps : TakesValue (of_guest telling_contexts) (codes "--stamps") (codes "stamps")
 unfolding the_app top_app guest_app demo_app replay_app clap_on_literals
 contexts_takes_stamps = takes_value refl (takes_one refl refl refl refl refl (λ word. refl)) (λ rows p. refl) (λ rows p. and-true _)
 
@@ -288,8 +288,8 @@ takes_choice (of_guest caching) (sets v) has = cache_takes_sets
 takes_choice (of_guest caching) (ways v) has = cache_takes_ways
 takes_choice (of_guest caching) (line v) has = cache_takes_line
 takes_choice (of_guest caching) _ has = no_option has
-takes_choice (of_guest telling) (stamps v) has = contexts_takes_stamps
-takes_choice (of_guest telling) _ has = no_option has
+takes_choice (of_guest telling_contexts) (stamps v) has = contexts_takes_stamps
+takes_choice (of_guest telling_contexts) _ has = no_option has
 takes_choice replaying (stamps v) has = replay_takes_stamps
 takes_choice replaying stats has = replay_takes_stats
 takes_choice replaying _ has = no_option has
@@ -393,7 +393,7 @@ finished_own running rows =
     ∙ if_unset (has_row (codes "stats") rows) rows refl
 finished_own tracing rows = sym (append-nil rows)
 finished_own caching rows = no_defaults (own_rules caching) rows (refl, (refl, (refl, tt))) ∙ sym (append-nil rows)
-finished_own telling rows = no_defaults (own_rules telling) rows (refl, tt) ∙ sym (append-nil rows)
+finished_own telling_contexts rows = no_defaults (own_rules telling_contexts) rows (refl, tt) ∙ sym (append-nil rows)
 
 pub finished_rows : (k : Subcommand) (rows : List Row) → fold with_default rows (rules k) ≡ rows ++ added_rows (has_stats k) (has_row (codes "stats") rows)
 unfolding the_app top_app guest_app demo_app replay_app clap_on_literals

@@ -15,7 +15,7 @@ use Rattle.clap.specs.Facts.{explicit_source}
 use Rattle.std.specs.Str.{bytes_eq}
 use Rattle.command_line.specs.App.{the_app, top_app, guest_app, demo_app, replay_app}
 use Rattle.command_line.specs.Options.{Analysis, Demo, GuestOptions, Replay, ReplayOptions, analysis_of_rows, bits_of, budget_of, demo_of, demo_of_rows, guest_asked_with, guest_of_rows, guest_with, quantum_of, replay_of_rows, replay_with, run_with, shape_of_rows, shape_said}
-use Rattle.command_line.specs.Plain.{GuestCommand, caching, running, telling, tracing}
+use Rattle.command_line.specs.Plain.{GuestCommand, caching, running, telling_contexts, tracing}
 use Rattle.command_line.specs.Plain as plain
 use Rattle.command_line.specs.Taken.{FailsByNumber, HasBadDemo, HasBadNumber, HasBadSteps, HasBadWidth, IsFound, TakenWordsFailByNumbers}
 use Rattle.command_line.proofs.Filled.{AllKeep, IsKept, filled_same, is_appended, is_filled, is_flag, is_own, is_set, kept_keeps, row_for, settle_keeps, walk_keeps}
@@ -73,7 +73,7 @@ enters_one a (Some met) p q =
 
 -- the subcommands, in their order
 abbrev subcommands : List Shape
-subcommands = shape (of_guest running) ∷ demo_shape ∷ shape (of_guest tracing) ∷ shape (of_guest caching) ∷ replay_shape ∷ shape (of_guest telling) ∷ []
+subcommands = shape (of_guest running) ∷ demo_shape ∷ shape (of_guest tracing) ∷ shape (of_guest caching) ∷ replay_shape ∷ shape (of_guest telling_contexts) ∷ []
 
 subs_are : (built the_app).subs ≡ subcommands
 unfolding the_app top_app guest_app demo_app replay_app clap_on_literals
@@ -168,7 +168,7 @@ unfolding the_app top_app guest_app demo_app replay_app clap_on_literals
 own_kept running = ((is_set refl refl, (is_set refl refl, (is_flag refl refl, tt))), (is_set refl refl, (is_set refl refl, (is_flag refl refl, tt))))
 own_kept tracing = (tt, tt)
 own_kept caching = ((is_set refl refl, (is_set refl refl, (is_set refl refl, tt))), (is_set refl refl, (is_set refl refl, (is_set refl refl, tt))))
-own_kept telling = ((is_set refl refl, tt), (is_set refl refl, tt))
+own_kept telling_contexts = ((is_set refl refl, tt), (is_set refl refl, tt))
 
 output_keeps : (g : GuestCommand) → AllKeep (codes "output") (rules (of_guest g))
 unfolding the_app top_app guest_app demo_app replay_app clap_on_literals
@@ -317,7 +317,7 @@ own_fails caching rest passes none =
     let said : shape_of_rows rows ≡ shape_said (Some sets.0) (Some ways.0) (Some line.0) =
     ap₂ (λ a b. shape_said a b (first_of (codes "line") rows)) sets.1 ways.1 ∙ ap (shape_said (Some sets.0) (Some ways.0)) line.1 in
     (sets.0, ways.0, line.0, sets.1, ways.1, line.1, sym said ∙ none_mapped Analysis.Cache (shape_of_rows rows) none)
-own_fails telling rest passes none = none_mapped Analysis.Contexts _ none
+own_fails telling_contexts rest passes none = none_mapped Analysis.Contexts _ none
 
 guest_fails : (g : GuestCommand) (found : Option (Text × List Row)) → Enters (shape (of_guest g)) found → read_of found ≡ None
     → IsFound found (plain.name_of g) (λ rows. HasBadSteps rows ⊎ HasBadNumber g rows)
@@ -375,5 +375,5 @@ fails_by_numbers words taken zeros none = go (taken_enters words taken)
     go (inr (inr (inl enters))) = inl (tracing, guest_fails tracing found enters read_none)
     go (inr (inr (inr (inl enters)))) = inl (caching, guest_fails caching found enters read_none)
     go (inr (inr (inr (inr (inl enters))))) = inr (inl (replay_fails found enters read_none))
-    go (inr (inr (inr (inr (inr (inl enters)))))) = inl (telling, guest_fails telling found enters read_none)
+    go (inr (inr (inr (inr (inr (inl enters)))))) = inl (telling_contexts, guest_fails telling_contexts found enters read_none)
     go (inr (inr (inr (inr (inr (inr none')))))) = absurd none'

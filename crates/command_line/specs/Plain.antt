@@ -13,14 +13,14 @@ pub data GuestCommand : Type 0 where
   running : GuestCommand
   tracing : GuestCommand
   caching : GuestCommand
-  telling : GuestCommand
+  telling_contexts : GuestCommand
 
 -- its name
 abbrev pub name_of : GuestCommand → Text
 name_of running = codes "run"
 name_of tracing = codes "trace"
 name_of caching = codes "cache"
-name_of telling = codes "contexts"
+name_of telling_contexts = codes "contexts"
 
 -- an option of a command that runs a guest or of `replay`, with its value where it takes one
 pub data Choice : Type 0 where
@@ -112,7 +112,7 @@ is_of running stats = true
 is_of caching (sets v) = true
 is_of caching (ways v) = true
 is_of caching (line v) = true
-is_of telling (stamps v) = true
+is_of telling_contexts (stamps v) = true
 is_of command c = is_of_all c
 
 -- the option is one of `replay`
@@ -193,7 +193,7 @@ analysis_given running choices = option_map (run_given choices) (bits_of (given 
 analysis_given tracing choices = Some Analysis.Trace
 analysis_given caching choices =
     option_map Analysis.Cache (shape_said (given (codes "sets") choices) (given (codes "ways") choices) (given (codes "line") choices))
-analysis_given telling choices = option_map Analysis.Contexts (bits_of (given (codes "stamps") choices))
+analysis_given telling_contexts choices = option_map Analysis.Contexts (bits_of (given (codes "stamps") choices))
 
 -- The options of plain words are the values in the words, and the defaults of the numbers that are left out.
 abbrev pub PlainOptionsAreRead : Type 0

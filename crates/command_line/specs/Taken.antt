@@ -3,14 +3,14 @@ use Rattle.std.specs.Prelude.{◌≡◌, ◌⊎◌, true, false, List, Option, S
 use Rattle.std.specs.List.{list_any}
 use Rattle.clap.specs.Words.{Row, Text, first_of, subcommand_of, takes}
 use Rattle.command_line.specs.App.{the_app}
-use Rattle.command_line.specs.Plain.{GuestCommand, caching, name_of, running, telling, tracing}
+use Rattle.command_line.specs.Plain.{GuestCommand, caching, name_of, running, telling_contexts, tracing}
 use Rattle.command_line.specs.Options.{asked_of, bits_of, budget_of, demo_of, has_zero, quantum_of, shape_said}
 
 -- a number of a guest is out of its form or range
 abbrev pub HasBadSteps : List Row → Type 0
 HasBadSteps rows = (quantum_of (first_of (codes "quantum") rows) ≡ None) ⊎ (budget_of (first_of (codes "budget") rows) ≡ None)
 
--- the width of stamps is none
+-- the text for the width of stamps is not one of the widths
 abbrev pub HasBadWidth : List Row → Type 0
 HasBadWidth rows = bits_of (first_of (codes "stamps") rows) ≡ None
 
@@ -24,7 +24,7 @@ abbrev pub HasBadNumber : GuestCommand → List Row → Type 0
 HasBadNumber running rows = HasBadWidth rows
 HasBadNumber tracing rows = ⊥
 HasBadNumber caching rows = HasNoShape rows
-HasBadNumber telling rows = HasBadWidth rows
+HasBadNumber telling_contexts rows = HasBadWidth rows
 
 -- the number of `demo` is there, and out of its form or range
 abbrev pub HasBadDemo : List Row → Type 0

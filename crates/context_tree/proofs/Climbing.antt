@@ -11,7 +11,7 @@ use Rattle.cost_points.proofs.Merged.{sized-more}
 use Rattle.context_tree.specs.Contexts.{same}
 use Rattle.context_tree.specs.Numbers.{NumbersStandFor, above_of, numbered}
 use Rattle.context_tree.specs.Points.{members_of, points_from, points_of}
-use Rattle.context_tree.specs.Ways.{ArePoints, HasSpare, IsWay, PointList, lists, no_points, tagged, up, with_ended}
+use Rattle.context_tree.specs.Private.Ways.{ArePoints, HasSpare, IsWay, PointList, lists, no_points, tagged, up, with_ended}
 use Rattle.context_tree.proofs.Numbering.{other_told, same_told}
 
 -- ---- the way up

@@ -26,7 +26,7 @@ use Rattle.context_tree.specs.Numbers as by_number
 use Rattle.context_tree.specs.Points.{done_in_context, points_from, points_in, points_of}
 use Rattle.context_tree.specs.Branches.{KeptBranches, BranchesStandFor, current_of}
 use Rattle.context_tree.specs.Private.Adding.{with_list}
-use Rattle.context_tree.specs.Ways.{ArePoints, IsWay, tagged, up}
+use Rattle.context_tree.specs.Private.Ways.{ArePoints, IsWay, tagged, up}
 use Rattle.context_tree.proofs.Known.{done_known, no_members}
 use Rattle.context_tree.proofs.Linking.{linked_none}
 use Rattle.context_tree.proofs.Numbering.{none_stand, not_none, same_front}

@@ -13,6 +13,7 @@ use Rattle.trace_model.specs.Profile.{ended}
 use Rattle.trace_model.specs.WellFormed.{IsLight, IsWellFormed, greatest_start}
 use Rattle.trace_order.proofs.Progressing.{allowed_by}
 use Rattle.context_tree.specs.Branches as grown
+use Rattle.context_tree.specs.Private.Pasts as pasts
 use Rattle.context_tree.specs.Contexts.{contexts}
 use Rattle.context_tree.specs.Numbers.{numbered}
 use Rattle.context_tree.specs.Order.{IsFollowedBy}
@@ -39,10 +40,10 @@ whole kept some = ∥∥₁_elim some (whole_once kept.branches) (λ of. record 
   each = each_points kept.branches of.past of.now.branches_are (light_of of.past of.now.progress_is.formed);
 })
 
-pub some_branches : (kept : KeptTree) → ∥ IsOfSome kept ∥₁ → ∥ grown.IsOfSome kept.branches ∥₁
+pub some_branches : (kept : KeptTree) → ∥ IsOfSome kept ∥₁ → ∥ pasts.IsOfSome kept.branches ∥₁
 some_branches kept some = ∥∥₁_map some (λ of. record { past = of.past; now = of.now.branches_are })
 
-pub light_branches : (kept : KeptTree) → ∥ IsOfSome kept ∥₁ → ∥ grown.IsOfLight kept.branches ∥₁
+pub light_branches : (kept : KeptTree) → ∥ IsOfSome kept ∥₁ → ∥ pasts.IsOfLight kept.branches ∥₁
 light_branches kept some = ∥∥₁_map some (λ of. record { past = of.past; now = of.now.branches_are; light = light_of of.past of.now.progress_is.formed })
 
 -- the one that comes next has a number

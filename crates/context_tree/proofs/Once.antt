@@ -9,7 +9,7 @@ use Rattle.context_tree.specs.declared.order.Links.{Links}
 use Rattle.context_tree.specs.Branches.{KeptBranches}
 use Rattle.context_tree.specs.Links.{IsLastUnder, IsLinked, IsNextUnder}
 use Rattle.context_tree.specs.Private.Taking.{IsWhole}
-use Rattle.context_tree.specs.Ways.{ArePoints}
+use Rattle.context_tree.specs.Private.Ways.{ArePoints}
 
 pub if_some : {A : Type 0} (P : A → Type 0) → ((a : A) → IsProp (P a)) → (o : Option A) → IsProp (IfSome o P)
 if_some P once None = hlevel props

@@ -22,7 +22,7 @@ use Rattle.cost_points.proofs.Small.{IsSmall, few_done, small_done}
 use Rattle.cost_points.proofs.Tables.{sizes_rise}
 use Rattle.context_tree.specs.Contexts.{same}
 use Rattle.context_tree.specs.Points.{contexts_ended, done_in_context, members_of, points_from, points_in}
-use Rattle.context_tree.specs.Ways.{ArePoints}
+use Rattle.context_tree.specs.Private.Ways.{ArePoints}
 
 -- ---- ended activations with their contexts are the ended activations
 zip_second : {A B : Type 0} (xs : List A) (ys : List B) → length xs ≡ length ys → map (λ (x : A × B). x.1) (zip xs ys) ≡ ys

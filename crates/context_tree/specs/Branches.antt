@@ -4,7 +4,7 @@ use Rattle.std.specs.Option.{option_map_or}
 use Rattle.guest_words.specs.ByThread.{numbers, value_of}
 use Rattle.trace_model.specs.declared.event_kinds.Event.{Event}
 use Rattle.trace_model.specs.Activations.{open_calls}
-use Rattle.trace_model.specs.WellFormed.{IsLight, greatest_start, is_live}
+use Rattle.trace_model.specs.WellFormed.{greatest_start, is_live}
 use Rattle.cost_points.specs.declared.point.Point.{Point}
 use Rattle.guest_words.specs.declared.limits.TheConstants.{CONTEXTS}
 use Rattle.context_tree.specs.declared.order.Links.{Links}
@@ -36,14 +36,3 @@ pub record BranchesStandFor (kept : KeptBranches) (past : List Event) : Type 0 w
   pub threads_live : (t : ℕ) → is_some (value_of kept.threads t) ≡ is_live past t
   pub threads_began : All (λ n. n ≤ greatest_start past) (numbers kept.threads)
   pub threads_in : (t : ℕ) → IsNumberOf (contexts past) (current_of kept t) (context_of (open_calls past t))
-
--- It is what is kept of some past.
-pub record IsOfSome (kept : KeptBranches) : Type 0 where
-  pub past : List Event
-  pub now : BranchesStandFor kept past
-
--- It is what is kept of a past that is light.
-pub record IsOfLight (kept : KeptBranches) : Type 0 where
-  pub past : List Event
-  pub now : BranchesStandFor kept past
-  pub light : IsLight past

@@ -22,7 +22,7 @@ context_begun (Start tid entry) past = Some (context_of (open_calls (Start tid e
 context_begun (Call tid entry back) past = Some (context_of (open_calls (Call tid entry back ∷ past) tid))
 context_begun _ past = None
 
--- the contexts with this one, which comes last where it is none of them
+-- the contexts with this one, which is added at the end unless it is among them
 abbrev pub with_context : List (List ℕ) → List ℕ → List (List ℕ)
 with_context contexts c = if list_any (same c) contexts then contexts else contexts ++ c ∷ []
 

@@ -1,4 +1,4 @@
--- What is so of the calling contexts of every run, with no word of a tree.
+-- What holds of the calling contexts of every run, stated without a tree.
 use Rattle.std.specs.Prelude.{◌≡◌, ℕ, ◌==◌, Bool, false, List, [], ◌∷◌, filter, map}
 use Rattle.std.specs.List.{All, count_by, flat_map, fold, sum_by}
 use Rattle.std.specs.Option.{option_map_or}

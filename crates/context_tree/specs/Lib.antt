@@ -4,8 +4,6 @@ pub mod Numbers
 pub mod Order
 pub mod Points
 pub mod Links
-pub mod Ways
-pub mod Pending
 pub mod Branches
 pub mod Trees
 pub mod Laws

@@ -17,7 +17,7 @@ above_of places n = (slice_index_or places (n - 1) (0, 0)).0
 abbrev pub same_place : ℕ × ℕ → ℕ × ℕ → Bool
 same_place x y = nat_eq x.0 y.0 && nat_eq x.1 y.1
 
--- the places with this one, which comes last where it is none of them
+-- the places with this one, which is added at the end unless it is among them
 abbrev pub with_place : List (ℕ × ℕ) → ℕ × ℕ → List (ℕ × ℕ)
 with_place places place = if list_any (same_place place) places then places else places ++ place ∷ []
 

@@ -2,3 +2,6 @@
 pub mod Adding
 pub mod Leaving
 pub mod Taking
+pub mod Ways
+pub mod Pending
+pub mod Pasts

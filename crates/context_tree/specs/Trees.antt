@@ -43,7 +43,8 @@ pub record AreOfSome (kept : KeptTree) (e : Event) (ends : List Done) : Type 0 w
   pub now : TreeStandsFor kept past
   pub ends_are : ends ≡ ended e past
 
--- They are the activations that the event ends: a return, or the end of a thread, those of some past, and any other event none.
+-- They are the activations that the event ends: of a return or the end of a thread, those that it ends after some past of
+-- which this is kept; any other event ends none.
 abbrev pub AreEnded : KeptTree → Event → List Done → Type 0
 AreEnded kept (Ret tid target) ends = ∥ AreOfSome kept (Ret tid target) ends ∥₁
 AreEnded kept (End tid) ends = ∥ AreOfSome kept (End tid) ends ∥₁

@@ -13,11 +13,12 @@ ghost use Rattle.context_tree.specs.Links.{IsLinked};
 ghost use Rattle.context_tree.specs.Numbers.{IsBeyond, IsNumberOf, numbered};
 ghost use Rattle.context_tree.specs.Numbers as by_number;
 ghost use Rattle.context_tree.specs.Order.{IsFollowedBy, IsInOrder};
-ghost use Rattle.context_tree.specs.Branches.{IsOfLight, IsOfSome, BranchesStandFor, current_of};
+ghost use Rattle.context_tree.specs.Branches.{BranchesStandFor, current_of};
+ghost use Rattle.context_tree.specs.Private.Pasts.{IsOfLight, IsOfSome};
 ghost use Rattle.context_tree.specs.Trees.{HasTooMany, IsShown};
 ghost use Rattle.context_tree.specs.Private.Taking.{IsWhole, Takes};
 ghost use Rattle.context_tree.specs.Private.Adding.{with_list};
-ghost use Rattle.context_tree.specs.Ways.{ArePoints, IsWay, lists};
+ghost use Rattle.context_tree.specs.Private.Ways.{ArePoints, IsWay, lists};
 
 use crate::order::{Links, add_link, after_under};
 use crate::points::{ContextPoints, add_up, reserve_up};
@@ -43,7 +44,7 @@ pub(crate) struct Branches {
 
 impl Model for Branches {
     ghost use Rattle.context_tree.specs.Branches.{KeptBranches};
-    ghost use Rattle.context_tree.specs.Ways.{lists};
+    ghost use Rattle.context_tree.specs.Private.Ways.{lists};
 
     ghost Value = { KeptBranches };
 
@@ -71,7 +72,7 @@ fn begin(
         → OnOk result (lists points.new.items ≡ with_list (list_any (same (numbered contexts above ++ entry ∷ [])) contexts) (lists points.old.items)) }
     ensures too_many { (contexts : List (List ℕ)) → by_number.NumbersStandFor numbers.old contexts
         → result ≡ Err TreeError.TooMany → IsBeyond contexts (numbered contexts above ++ entry ∷ []) }
-    ensures only_memory { (contexts : List (List ℕ)) → by_number.NumbersStandFor numbers.old contexts
+    ensures always_too_many { (contexts : List (List ℕ)) → by_number.NumbersStandFor numbers.old contexts
         → IsBeyond contexts (numbered contexts above ++ entry ∷ []) → result ≡ Err TreeError.TooMany }
     ensures refused_numbers { OnErr result (numbers.new ≡ numbers.old) }
     ensures linked { OnOk result (IsLinked numbers.new links.new.items) }
@@ -117,7 +118,7 @@ impl Branches {
             → OnOk result (BranchesStandFor self.new (e ∷ past)) }
         ensures too_many { (past : List Event) → BranchesStandFor self.old past
             → result ≡ Err TreeError.TooMany → HasTooMany e past }
-        ensures only_memory { (past : List Event) → BranchesStandFor self.old past → HasTooMany e past
+        ensures always_too_many { (past : List Event) → BranchesStandFor self.old past → HasTooMany e past
             → result ≡ Err TreeError.TooMany }
         ensures refused { OnErr result (self.new ≡ self.old) }
         ensures no_allocation { (past : List Event) → context_begun e past ≡ None → ends.now ≡ []
@@ -158,8 +159,8 @@ impl Branches {
         }
     }
 
-    /// The depth, the entry and the points of a context, the contexts in the order of the text. It takes `i` steps: to go through
-    /// all of them, take `next_in_order` and `at`.
+    /// The depth, the last entry and the points of the context at place `i` in the order of the text. It takes `i` steps: to go
+    /// through all of them, take `next_in_order` and `at`.
     pub(crate) fn context(&self, i: usize) -> Result<(u32, Addr, Vec<Point>), AllocError>
         requires stands { ∥ IsOfSome self.now ∥₁ }
         requires within { i < length self.now.places }
@@ -188,7 +189,7 @@ impl Branches {
         n
     }
 
-    /// The depth of the context of a number, which is 0 where it has one entry, its entry, and its points.
+    /// The depth of the context of this number (0 where it has one entry), its last entry and its points.
     pub(crate) fn at(&self, n: u32) -> Result<(u32, Addr, Vec<Point>), AllocError>
         requires linked { IsLinked self.now.places self.now.links }
         requires long { length self.now.points ≡ length self.now.places }
@@ -245,7 +246,7 @@ impl Branches {
             → OnOk result (BranchesStandFor self.new (Start tid entry ∷ past)) }
         ensures too_many { (past : List Event) → BranchesStandFor self.old past
             → result ≡ Err TreeError.TooMany → HasTooMany (Start tid entry) past }
-        ensures only_memory { (past : List Event) → BranchesStandFor self.old past
+        ensures always_too_many { (past : List Event) → BranchesStandFor self.old past
             → HasTooMany (Start tid entry) past → result ≡ Err TreeError.TooMany }
         ensures refused { OnErr result (self.new ≡ self.old) }
     {
@@ -275,7 +276,7 @@ impl Branches {
             → OnOk result (BranchesStandFor self.new (Call tid entry back ∷ past)) }
         ensures too_many { (past : List Event) (back : ℕ) → BranchesStandFor self.old past
             → result ≡ Err TreeError.TooMany → HasTooMany (Call tid entry back) past }
-        ensures only_memory { (past : List Event) (back : ℕ) → BranchesStandFor self.old past
+        ensures always_too_many { (past : List Event) (back : ℕ) → BranchesStandFor self.old past
             → HasTooMany (Call tid entry back) past → result ≡ Err TreeError.TooMany }
         ensures refused { OnErr result (self.new ≡ self.old) }
     {

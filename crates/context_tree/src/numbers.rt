@@ -82,7 +82,7 @@ impl ContextNumbers {
             → IfOk result (λ n. IsNumberOf (with_context contexts (numbered contexts above ++ entry ∷ [])) n (numbered contexts above ++ entry ∷ [])) }
         ensures too_many { (contexts : List (List ℕ)) → NumbersStandFor self.old contexts
             → result ≡ Err TreeError.TooMany → IsBeyond contexts (numbered contexts above ++ entry ∷ []) }
-        ensures only_memory { (contexts : List (List ℕ)) → NumbersStandFor self.old contexts
+        ensures always_too_many { (contexts : List (List ℕ)) → NumbersStandFor self.old contexts
             → IsBeyond contexts (numbered contexts above ++ entry ∷ []) → result ≡ Err TreeError.TooMany }
         ensures refused { OnErr result (self.new ≡ self.old) }
     {

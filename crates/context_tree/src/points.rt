@@ -4,9 +4,9 @@ ghost use Rattle.std.specs.List.{All};
 ghost use Rattle.trace_model.specs.declared.slow_profile.Done.{Done};
 ghost use Rattle.context_tree.specs.Numbers.{NumbersStandFor};
 ghost use Rattle.cost_points.specs.Search.{HasRoom};
-ghost use Rattle.context_tree.specs.Pending.{known, with_point};
+ghost use Rattle.context_tree.specs.Private.Pending.{known, with_point};
 ghost use Rattle.context_tree.specs.Points.{points_of};
-ghost use Rattle.context_tree.specs.Ways.{ArePoints, HasSpare, IsWay, lists, tagged, up, with_ended};
+ghost use Rattle.context_tree.specs.Private.Ways.{ArePoints, HasSpare, IsWay, lists, tagged, up, with_ended};
 
 use crate::ContextNumbers;
 use cost_points::{Point, SortedPoints, insert_point};
@@ -26,8 +26,8 @@ pub(crate) struct ContextPoints {
 
 impl Model for ContextPoints {
     ghost use Rattle.std.specs.Option.{ForSome};
-    ghost use Rattle.context_tree.specs.Pending.{MayJoin, known, with_last};
-    ghost use Rattle.context_tree.specs.Ways.{PointList};
+    ghost use Rattle.context_tree.specs.Private.Pending.{MayJoin, known, with_last};
+    ghost use Rattle.context_tree.specs.Private.Ways.{PointList};
 
     ghost Value = { PointList };
 

@@ -79,7 +79,7 @@ impl Tree {
             → OnOk result (TreeStandsFor self.new (e ∷ past)) }
         ensures too_many { (past : List Event) → TreeStandsFor self.old past
             → result ≡ Err TreeError.TooMany → HasTooMany e past }
-        ensures only_memory { (past : List Event) → TreeStandsFor self.old past → HasTooMany e past
+        ensures always_too_many { (past : List Event) → TreeStandsFor self.old past → HasTooMany e past
             → result ≡ Err TreeError.TooMany }
         ensures refused { OnErr result (self.new ≡ self.old) }
         ensures no_allocation { (past : List Event) → context_begun e past ≡ None → ends.now ≡ []
@@ -127,8 +127,8 @@ impl Tree {
         self.branches.next_in_order(n)
     }
 
-    /// The depth, the entry and the points of a context, the contexts in the order of the text. It takes `i` steps: to go through
-    /// all of them, take `next_in_order` and `at`.
+    /// The depth, the last entry and the points of the context at place `i` in the order of the text. It takes `i` steps: to go
+    /// through all of them, take `next_in_order` and `at`.
     pub fn context(&self, i: usize) -> Result<(u32, Addr, Vec<Point>), AllocError>
         requires { i < length self.now.branches.places }
         ensures { (past : List Event) (ordered : List (List ℕ)) → TreeStandsFor self.now past
@@ -138,7 +138,7 @@ impl Tree {
         self.branches.context(i)
     }
 
-    /// The depth of the context of a number, which is 0 where it has one entry, its entry, and its points.
+    /// The depth of the context of this number (0 where it has one entry), its last entry and its points.
     pub fn at(&self, n: u32) -> Result<(u32, Addr, Vec<Point>), AllocError>
         requires some { 1 ≤ n }
         requires within { n ≤ length self.now.branches.places }

@@ -4,7 +4,8 @@ use Rattle.std.specs.List.{AllByRecursion}
 use Rattle.std.specs.Option.{option_or}
 use Rattle.elf_image.specs.declared.error.ElfError.{ElfError}
 use Rattle.elf_image.specs.declared.error.ElfError.TheVariants as error
-use Rattle.elf_image.specs.Tests.{Tests, fails_short, first_of, first_refusal, format_tests, header_tests, kind_tests, layout_tests, segment_tests, table_tests, unless_refused}
+use Rattle.elf_image.specs.Tests.{Tests, fails_short, first_of, first_refusal, format_tests, header_tests, kind_tests, layout_tests, segment_tests, table_tests}
+use Rattle.elf_image.specs.Private.Checks.{unless_refused}
 
 -- the first of two lists is that of the front, and else that of the rest
 pub first_of-append : (xs ys : Tests) → first_of (xs ++ ys) ≡ option_or (first_of xs) (first_of ys)

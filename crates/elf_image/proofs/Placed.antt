@@ -9,7 +9,7 @@ use Rattle.std.proofs.lemmas.Option.{slice_get-get_or}
 use Rattle.elf_image.specs.declared.symbols.SymbolPlace.{SymbolPlace}
 use Rattle.elf_image.specs.Private.FirstSymbols.{AreFirst}
 use Rattle.elf_image.specs.Image.{name_beside}
-use Rattle.elf_image.specs.Places.{placed}
+use Rattle.elf_image.specs.Private.Places.{placed}
 use Rattle.elf_image.specs.Headers.{half_at, word_at}
 use Rattle.elf_image.specs.Symbols.{Symbol, goes_before, name_in, rank_of, symbol_at}
 use Rattle.elf_image.proofs.NameLists.{name_of-symbols, named}

@@ -6,5 +6,4 @@ pub mod Reading
 pub mod Segments
 pub mod Symbols
 pub mod Tests
-pub mod Places
 pub mod Private

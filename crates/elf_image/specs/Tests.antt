@@ -1,5 +1,5 @@
 -- The tests that a file has to pass, each over the whole file, in their order. Sums don't wrap.
-use Rattle.std.specs.Prelude.{ℕ, ◌+◌, ◌*◌, ◌%◌, Bool, false, not, ◌&&◌, ◌||◌, ◌==◌, nat_lt, if◌then◌else◌, List, [], ◌∷◌, ◌++◌, length, slice_index, Option, Some, None, Result, Ok, Err}
+use Rattle.std.specs.Prelude.{ℕ, ◌+◌, ◌*◌, ◌%◌, Bool, false, not, ◌&&◌, ◌||◌, ◌==◌, nat_lt, if◌then◌else◌, List, [], ◌∷◌, ◌++◌, length, slice_index, Option, Some, None}
 use Rattle.std.specs.List.{list_any}
 use Rattle.guest_words.specs.declared.limits.TheConstants.{PAGES}
 use Rattle.elf_image.specs.declared.error.ElfError.{ElfError}
@@ -138,11 +138,6 @@ layout_tests file =
 -- the error of the first test that the file fails
 unfoldable pub first_refusal : List ℕ → Option ElfError
 first_refusal file = first_of (header_tests file ++ (segment_tests file ++ layout_tests file))
-
--- nothing where no test fails, and else the error
-abbrev pub unless_refused : Option ElfError → Result Unit ElfError
-unless_refused None = Ok tt
-unless_refused (Some e) = Err e
 
 -- the number of the test that fails, and 0 for out of memory
 abbrev pub number_of : ElfError → ℕ

@@ -1,7 +1,8 @@
 //! The tests of the file header.
 ghost use Rattle.std.specs.Prelude.{◌≡◌, ◌<◌, ◌≤◌, ◌+◌, ◌*◌, length, IfOk, IfErr, OnOk};
 ghost use Rattle.elf_image.specs.Headers.{file_header};
-ghost use Rattle.elf_image.specs.Tests.{first_of, format_tests, header_tests, kind_tests, table_tests, unless_refused};
+ghost use Rattle.elf_image.specs.Tests.{first_of, format_tests, header_tests, kind_tests, table_tests};
+ghost use Rattle.elf_image.specs.Private.Checks.{unless_refused};
 
 use crate::ElfError;
 use crate::headers::FileHeader;

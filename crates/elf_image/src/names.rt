@@ -4,7 +4,7 @@ ghost use Rattle.std.specs.List.{cons_option, range_with_len};
 ghost use Rattle.std.specs.List.Sorted.{IsNonDecreasingBy, IsPermutation};
 ghost use Rattle.elf_image.specs.Private.FirstSymbols.{AreFirst, IsEntry, entry_at, symbols_of_entries};
 ghost use Rattle.elf_image.specs.Headers.{file_header, section_header};
-ghost use Rattle.elf_image.specs.Places.{IsNamed, placed};
+ghost use Rattle.elf_image.specs.Private.Places.{IsNamed, placed};
 ghost use Rattle.elf_image.specs.Symbols.{Symbol, goes_before, section_bytes, symbols, symbols_in};
 
 use crate::headers::{FileHeader, SectionHeader, word_at};

@@ -4,7 +4,8 @@ ghost use Rattle.std.specs.List.{list_any};
 ghost use Rattle.elf_image.specs.Headers.{file_header, program_headers};
 ghost use Rattle.elf_image.specs.Private.Layout.{IsLoadable};
 ghost use Rattle.elf_image.specs.Segments.{header_place, is_load, is_occupied, load_headers, occupied_headers, rights_of, segment_of};
-ghost use Rattle.elf_image.specs.Tests.{file_part_tests, first_of, place_tests, segment_tests, type_tests, unless_refused};
+ghost use Rattle.elf_image.specs.Tests.{file_part_tests, first_of, place_tests, segment_tests, type_tests};
+ghost use Rattle.elf_image.specs.Private.Checks.{unless_refused};
 ghost use Rattle.elf_image.specs.declared.error.ElfError.TheVariants as error;
 
 use crate::headers::{FileHeader, ProgramHeader};

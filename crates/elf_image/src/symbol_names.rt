@@ -2,7 +2,7 @@
 ghost use Rattle.std.specs.Prelude.{◌≡◌, ◌<◌, ◌==◌, None, All, AllPairs, IfOk, IsOk, MatchOption, length, map, slice_get};
 ghost use Rattle.std.specs.List.{find};
 ghost use Rattle.elf_image.specs.Image.{name_beside};
-ghost use Rattle.elf_image.specs.Places.{IsNamed, placed};
+ghost use Rattle.elf_image.specs.Private.Places.{IsNamed, placed};
 
 use crate::symbols::SymbolPlace;
 use guest_words::{Addr, Name, NameError};
@@ -19,7 +19,7 @@ pub(crate) struct SymbolNames {
 
 impl Model for SymbolNames {
     ghost use Rattle.std.specs.Prelude.{All, List, map};
-    ghost use Rattle.elf_image.specs.Places.{IsNamed, placed};
+    ghost use Rattle.elf_image.specs.Private.Places.{IsNamed, placed};
     ghost use Rattle.elf_image.specs.Symbols.{Symbol};
 
     ghost Value = { List Symbol };

@@ -3,7 +3,7 @@ ghost use Rattle.std.specs.Prelude.{◌≡◌, ◌<◌, ◌≤◌, ◌+◌, true
 ghost use Rattle.guest_words.specs.Names.{is_name};
 ghost use Rattle.elf_image.specs.Symbols.{has_sections, is_in_file, is_readable, is_zero, name_in, rank_of, section_bytes, symbol_at, symbol_table};
 ghost use Rattle.elf_image.specs.Headers.{file_header, section_header};
-ghost use Rattle.elf_image.specs.Places.{IsNamed, placed};
+ghost use Rattle.elf_image.specs.Private.Places.{IsNamed, placed};
 ghost use Rattle.std.specs.List.{position};
 
 use crate::headers::{FileHeader, SectionHeader, half_at, word_at};

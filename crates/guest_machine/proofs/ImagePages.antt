@@ -13,7 +13,7 @@ use Rattle.guest_memory.proofs.Accesses.{none_of}
 use Rattle.std.proofs.lemmas.List.Sums.{sum_by-cons}
 use Rattle.std.proofs.Math.Bool.{or-false, or-true, or_assoc}
 use Rattle.elf_image.specs.Image.{Executable, IsPlaced, Segment, is_touched, page_count, touches}
-use Rattle.guest_machine.specs.Setup.{AreRights, mapped_below, pages_of}
+use Rattle.guest_machine.specs.Private.Setup.{AreRights, mapped_below, pages_of}
 use Rattle.guest_machine.specs.Start.{first_break, image_memory, joined, rights_or_none, segment_rights, stack_page, stack_rights, start_memory, with_segment}
 
 -- a segment was added to the pages below one

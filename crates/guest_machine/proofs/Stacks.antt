@@ -10,7 +10,7 @@ use Rattle.std.proofs.lemmas.Grind.{flat_map-append}
 use Rattle.std.proofs.lemmas.List.Concat.{flat_map-cons}
 use Rattle.std.proofs.lemmas.Bool.Decides.{nat_tests}
 use Rattle.guest_words.specs.declared.limits.TheConstants.{STACK_PAGES}
-use Rattle.guest_machine.specs.Setup.{limited_length}
+use Rattle.guest_machine.specs.Private.Setup.{limited_length}
 use Rattle.guest_memory.specs.Memory.{Memory, is_among, with_pages}
 use Rattle.elf_image.specs.Image.{Executable}
 use Rattle.guest_machine.specs.Start.{auxiliary_vector, stack_page, stack_pointer, stack_rights, stack_words, string_addresses, strings, strings_address}

@@ -19,7 +19,8 @@ use Rattle.guest_machine.specs.Machine.{MachineState}
 use Rattle.guest_machine.specs.declared.stepped.Stepped.{Stepped}
 use Rattle.guest_machine.specs.Kept.{Parts, Steps, machine_of}
 use Rattle.guest_machine.specs.Step.{StepResult, access_events, faulted, jump_events, pc_of, went}
-use Rattle.guest_machine.specs.Told.{IsAlone, IsInstruction, IsQuiet, done_by, stepped_of, told}
+use Rattle.guest_machine.specs.Told.{IsInstruction, IsQuiet, done_by, stepped_of, told}
+use Rattle.guest_machine.specs.Private.Telling.{IsAlone}
 use Rattle.guest_machine.proofs.Executed.{Steps-faulted}
 use Rattle.guest_machine.specs.declared.stepped.Stepped.TheVariants.{Faulted}
 use Rattle.guest_machine.specs.declared.stepped.Advanced.{Advanced}

@@ -1,9 +1,5 @@
 -- A step whose events are told by what it did, or added to a list.
 use Rattle.std.specs.Prelude.{◌≡◌, ℕ, zero, suc, List, [], ◌∷◌, ◌++◌, None}
-use Rattle.rv_exec.specs.declared.outcome.Access.{Access}
-use Rattle.rv_exec.specs.declared.outcome.Access.TheVariants as access
-use Rattle.call_tracker.specs.declared.jumps.JumpKind.{JumpKind}
-use Rattle.call_tracker.specs.declared.jumps.JumpKind.TheVariants as jumps
 use Rattle.trace_model.specs.declared.event_kinds.Event.{Event}
 use Rattle.trace_model.specs.declared.event_kinds.Event.TheVariants.{Step}
 use Rattle.trace_model.specs.EventList.{EventList}
@@ -46,11 +42,6 @@ StepsTold r tid advanced new before after = Steps r (stepped_of advanced) new be
 abbrev pub IsQuiet : Advanced → Parts → EventList → EventList → Type 0
 IsQuiet (Other outcome) new before after = Unit {0}
 IsQuiet instruction new before after = (out_of new ≡ None) × (after ≡ before)
-
--- what accesses memory is no call and no return
-abbrev pub IsAlone : Access → JumpKind → Type 0
-IsAlone access.Nothing jump = Unit {0}
-IsAlone accessed jump = jump ≡ jumps.Nothing
 
 -- It is an instruction that went.
 abbrev pub IsInstruction : Advanced → Type 0

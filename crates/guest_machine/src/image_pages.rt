@@ -5,7 +5,7 @@ ghost use Rattle.guest_memory.specs.Guest.{memory_of};
 ghost use Rattle.guest_memory.specs.Memory.{no_memory};
 ghost use Rattle.elf_image.specs.Image.{IsPlaced, page_count};
 ghost use Rattle.guest_machine.specs.Start.{greatest_end, joined, rights_or_none, image_memory, with_segment};
-ghost use Rattle.guest_machine.specs.Setup.{AreRights, mapped_below, pages_of};
+ghost use Rattle.guest_machine.specs.Private.Setup.{AreRights, mapped_below, pages_of};
 
 use elf_image::Segment;
 use guest_memory::{GuestMemory, MemError};

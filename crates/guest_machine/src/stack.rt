@@ -1,7 +1,7 @@
 //! The guest's stack at its start.
 ghost use Rattle.std.specs.Prelude.{◌≡◌, ◌≤◌, ◌<◌, ◌+◌, ◌^◌, ◌++◌, length, map, flat_map, string_bytes, IfOk, OnOk};
 ghost use Rattle.std.specs.Int.{w32, to_le_bytes};
-ghost use Rattle.guest_machine.specs.Setup.{limited_length};
+ghost use Rattle.guest_machine.specs.Private.Setup.{limited_length};
 ghost use Rattle.guest_machine.specs.Start.{string_addresses, strings, stack_words, strings_address, random_bytes};
 
 use elf_image::Image;

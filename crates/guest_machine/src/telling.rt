@@ -7,7 +7,8 @@ ghost use Rattle.call_tracker.specs.Links.{kind_of};
 ghost use Rattle.guest_machine.specs.declared.stepped.Stepped.TheVariants.{Went};
 ghost use Rattle.guest_machine.specs.Kept.{Parts, out_of};
 ghost use Rattle.guest_machine.specs.Step.{access_events, jump_events};
-ghost use Rattle.guest_machine.specs.Told.{IsAlone, IsInstruction, IsQuiet, done_by, stepped_of, steps_of, told};
+ghost use Rattle.guest_machine.specs.Told.{IsInstruction, IsQuiet, done_by, stepped_of, steps_of, told};
+ghost use Rattle.guest_machine.specs.Private.Telling.{IsAlone};
 
 use crate::Advanced;
 use call_tracker::{JumpKind, kind};

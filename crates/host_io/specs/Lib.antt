@@ -4,3 +4,4 @@ pub mod Files
 pub mod Memory
 pub mod Real
 pub mod Sink
+pub mod Private

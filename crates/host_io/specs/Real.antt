@@ -1,9 +1,6 @@
 -- What the files of the system, a sink over a writer and one that drops all mean: counts alone, since nothing is known of
 -- what they hold.
-use Rattle.std.specs.Prelude.{◌≡◌, ◌≢◌, None, Result, Err}
-use Rattle.std.specs.IoError.{error_kind}
-use Rattle.std.specs.declared.io.Error.{Error}
-use Rattle.std.specs.declared.io.ErrorKind.TheVariants.{OutOfMemory}
+use Rattle.std.specs.Prelude.{None}
 use Rattle.host_io.specs.Files.{FilesState}
 use Rattle.host_io.specs.Sink.{SinkState}
 use Rattle.host_io.specs.declared.drop_sink.DropSink.{DropSink}
@@ -25,8 +22,3 @@ drop_state s = record { bytes = None; faults = 0 }
 -- the writer of a sink
 abbrev pub writer_of : {W : Type 0} → StreamSink W → W
 writer_of s = s.inner
-
--- A call is refused for this error of the system: out of memory is told apart from every other cause.
-pub record IsRefusedFor {T E : Type 0} (error : Error) (memory failed : E) (result : Result T E) : Type 0 where
-  pub out_of_memory : error_kind error ≡ OutOfMemory → result ≡ Err memory
-  pub fails : error_kind error ≢ OutOfMemory → result ≡ Err failed

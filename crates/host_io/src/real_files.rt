@@ -5,7 +5,7 @@ ghost use Rattle.std.specs.Io.KnownBytes.{Appends};
 ghost use Rattle.std.specs.Io.Take.{take_inner, take_limit};
 ghost use Rattle.host_io.specs.Files.{LoadEnds, StoreEnds, NoCountFalls};
 ghost use Rattle.host_io.specs.After.{after_load, after_store};
-ghost use Rattle.host_io.specs.Real.{IsRefusedFor};
+ghost use Rattle.host_io.specs.Private.Refused.{IsRefusedFor};
 
 use crate::{Files, LoadError, StoreError};
 use std::alloc::Global;

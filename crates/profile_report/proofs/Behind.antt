@@ -10,7 +10,8 @@ use Rattle.profile_report.specs.declared.parse_state.ParseState.{ParseState}
 use Rattle.profile_report.specs.declared.parse_state.ParseState.TheVariants.{AtVersion, Over}
 use Rattle.profile_report.specs.Grammar.{FitsLine, line_text, may_stand, rises, next}
 use Rattle.profile_report.specs.LineForms.{ended}
-use Rattle.profile_report.specs.Reading.{led, lines_text, is_over, IsReportRefused, Leads, RefusesLine, RefusesRest}
+use Rattle.profile_report.specs.Reading.{led, lines_text, is_over, IsReportRefused, RefusesLine, RefusesRest}
+use Rattle.profile_report.specs.Private.Lines.{Leads}
 use Rattle.profile_report.specs.Reported.{Reported}
 use Rattle.profile_report.specs.declared.report.ReportVersion.{ReportVersion}
 use Rattle.profile_report.specs.declared.reader.ReportError.{ReportError}

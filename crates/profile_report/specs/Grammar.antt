@@ -29,11 +29,6 @@ FitsLine (OfRoutine entry name) = (entry < 2 ^ 32) × FitsName name
 FitsLine (OfPoint p) = FitsPoint p
 FitsLine (Done routines) = routines < 2 ^ 64
 
--- a line that has no name
-abbrev pub IsPlain : Line → Type 0
-IsPlain (OfRoutine entry name) = ⊥
-IsPlain line = Unit {0}
-
 -- the routines that are whole, and the one that began last
 abbrev pub closed : Reported → Option ReportedRoutine → Reported
 closed r None = r

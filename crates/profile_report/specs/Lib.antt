@@ -5,3 +5,4 @@ pub mod Fits
 pub mod Grammar
 pub mod Reading
 pub mod Valid
+pub mod Private

@@ -85,7 +85,3 @@ abbrev pub IsReportRefused : List ℕ → ReportError → Type 0
 IsReportRefused text error =
     (count : ℕ) × (state : ParseState) × (rest : List ℕ) × Reaches text count state rest
     × (HasRefusedLine (count + 1) state rest error ⊎ ((lacks 10 rest ≡ true) × RefusesRest (count + 1) state rest error))
-
--- the line leads from a state to the next
-abbrev pub Leads : ParseState → List ℕ → ParseState → Type 0
-Leads state bytes after = (line : Line) × Says bytes line × (may_stand state line ≡ true) × (rises state line ≡ true) × (after ≡ next state line)

@@ -7,7 +7,8 @@ ghost use Rattle.guest_words.specs.declared.endings.Finish.{Finish};
 ghost use Rattle.profile_report.specs.LineForms.{end_line, fault_words, first_line, hex_address, name_word};
 ghost use Rattle.profile_report.specs.declared.line.Line.{Line};
 ghost use Rattle.profile_report.specs.declared.report.ReportVersion.{ReportVersion};
-ghost use Rattle.profile_report.specs.Grammar.{FitsLine, IsPlain, line_text};
+ghost use Rattle.profile_report.specs.Grammar.{FitsLine, line_text};
+ghost use Rattle.profile_report.specs.Private.Lines.{IsPlain};
 ghost use Rattle.profile_report.specs.Reading.{HasName};
 ghost use Rattle.profile_report.specs.Fits.{FitsEnd, FitsName};
 

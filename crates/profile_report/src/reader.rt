@@ -1,6 +1,7 @@
 //! Reading a report.
 ghost use Rattle.std.specs.Prelude.{◌≡◌, ℕ, List, [], IfOk, IfErr, MatchResult};
-ghost use Rattle.profile_report.specs.Reading.{IsMisplaced, IsReportRefused, Leads, RefusesLine, RefusesRest};
+ghost use Rattle.profile_report.specs.Reading.{IsMisplaced, IsReportRefused, RefusesLine, RefusesRest};
+ghost use Rattle.profile_report.specs.Private.Lines.{Leads};
 ghost use Rattle.profile_report.specs.Reported.{Reported};
 ghost use Rattle.profile_report.specs.ReportText.{report_text};
 ghost use Rattle.profile_report.specs.Valid.{IsValid};

@@ -51,12 +51,6 @@ pub record IsTraceOf (kept : KeptTrace) (past : List Event) : Type 0 where
   pub within : is_within (greatest B32) past ≡ true
   pub text : HasText kept.written past
 
--- It is of some past that a run can have.
-pub record MayWrite (w : Written) : Type 0 where
-  pub past : List Event
-  pub now : IsWrittenOf w past
-  pub formed : IsWellFormed past
-
 -- It is the trace of some past that a run can have.
 pub record IsTraceOfFormed (kept : KeptTrace) : Type 0 where
   pub past : List Event

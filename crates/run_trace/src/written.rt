@@ -3,7 +3,8 @@ ghost use Rattle.std.specs.Prelude.{◌≡◌, [], ◌∷◌, List, None, IfOk, 
 ghost use Rattle.trace_model.specs.declared.event_kinds.Event.{Event};
 ghost use Rattle.trace_file.specs.TraceText.{IsTextOf};
 ghost use Rattle.run_trace.specs.Entries.{entries_begun};
-ghost use Rattle.run_trace.specs.Kept.{IsWrittenOf, MayWrite};
+ghost use Rattle.run_trace.specs.Kept.{IsWrittenOf};
+ghost use Rattle.run_trace.specs.Private.Writing.{MayWrite};
 
 use crate::entries::entry_begun;
 use guest_words::Addr;

@@ -4,3 +4,4 @@ pub mod Executable
 pub mod Fields
 pub mod Lines
 pub mod Refusals
+pub mod Private

@@ -36,14 +36,6 @@ pub record IsAccepted (d : Draft) : Type 0 where
   pub bound : first_unbound d.bindings d.lines ≡ None
   pub reach : AreInReach d (length d.lines)
 
--- what the refusals of a draft say of a draft whose labels are all bound
-abbrev pub IsOutOfReach : Draft → AsmError → Type 0
-IsOutOfReach d (Reach at) = IsFirstOut d at
-IsOutOfReach d Memory = Unit {0}
-IsOutOfReach d (Unbound label) = ⊥
-IsOutOfReach d (Twice label) = ⊥
-IsOutOfReach d (Unencodable at) = ⊥
-
 -- What the refusals of a draft say of it. Out of memory may come at any draft.
 abbrev pub IsDraftRefused : Draft → AsmError → Type 0
 IsDraftRefused d (Unbound label) = first_unbound d.bindings d.lines ≡ Some label

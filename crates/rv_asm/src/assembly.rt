@@ -3,7 +3,8 @@ ghost use Rattle.std.specs.Prelude.{◌≡◌, ◌≤◌, ◌↔◌, length, All
 ghost use Rattle.rv_isa.specs.Encoding.{IsEncodable};
 ghost use Rattle.rv_asm.specs.Assembled.{instruction_at, binding_of, AreAssembled, IsWordOf};
 ghost use Rattle.rv_asm.specs.Draft.{IsBinding, IsWritable};
-ghost use Rattle.rv_asm.specs.Refusals.{first_unbound, is_ready, AreInReach, IsOutOfReach};
+ghost use Rattle.rv_asm.specs.Refusals.{first_unbound, is_ready, AreInReach};
+ghost use Rattle.rv_asm.specs.Private.Reach.{IsOutOfReach};
 
 use crate::error::AsmError;
 use crate::line::{Line, with_offset};

@@ -10,7 +10,8 @@ use Rattle.std.proofs.lemmas.List.Folds.{list_all-append}
 use Rattle.thread_sched.specs.declared.entry.Entry.{Entry}
 use Rattle.thread_sched.specs.declared.schedule.ScheduleError.{ScheduleError}
 use Rattle.thread_sched.specs.declared.schedule.ScheduleError.TheVariants.{BadLine, Memory}
-use Rattle.thread_sched.specs.ScheduleText.{HasEntry, IsBadLine, IsEntry, IsLineBefore, IsNoEntry, IsText, RefusesLine, Says, entry_text, schedule_text}
+use Rattle.thread_sched.specs.ScheduleText.{HasEntry, IsBadLine, IsEntry, IsLineBefore, IsNoEntry, IsText, entry_text, schedule_text}
+use Rattle.thread_sched.specs.Private.Lines.{RefusesLine, Says}
 use Rattle.guest_words.specs.Separators.{lacks}
 use Rattle.guest_words.proofs.Cuts.{cut_once, lacks_decimal, lacks_not}
 

@@ -1,2 +1,3 @@
 pub mod ScheduleText
 pub mod TurnRule
+pub mod Private

@@ -31,11 +31,11 @@ IsText text entries = (text ≡ schedule_text entries) ⊎ (text ++ 10 ∷ [] �
 abbrev pub IsLineBefore : List ℕ → List ℕ → Type 0
 IsLineBefore bytes rest = (lacks 10 bytes ≡ true) × (((bytes ≢ []) × (rest ≡ [])) ⊎ ((more : List ℕ) × (rest ≡ 10 ∷ more)))
 
--- the bytes are no entry's
+-- the bytes are not the text of an entry
 abbrev pub IsNoEntry : List ℕ → Type 0
 IsNoEntry bytes = (e : Entry) → IsEntry e → bytes ≢ entry_text e
 
--- The line of this number is no entry's, and each line before it is one's.
+-- The line of this number is not an entry's, and each line before it is.
 pub record IsBadLine (text : List ℕ) (number : ℕ) : Type 0 where
   pub entries : List Entry
   pub bytes : List ℕ
@@ -46,7 +46,7 @@ pub record IsBadLine (text : List ℕ) (number : ℕ) : Type 0 where
   pub line : IsLineBefore bytes rest
   pub bad : IsNoEntry bytes
 
--- A line is an entry's, as is each line before it. Only such a line is kept, and may find no memory.
+-- A line is an entry's, as is each line before it. Memory is wanted only to keep such a line.
 pub record HasEntry (text : List ℕ) : Type 0 where
   pub entries : List Entry
   pub entry : Entry
@@ -60,14 +60,3 @@ pub record HasEntry (text : List ℕ) : Type 0 where
 abbrev pub IsScheduleRefused : List ℕ → ScheduleError → Type 0
 IsScheduleRefused text (BadLine number) = IsBadLine text number
 IsScheduleRefused text Memory = HasEntry text
-
--- the bytes are this entry's, and no other's
-pub record Says (bytes : List ℕ) (e : Entry) : Type 0 where
-  pub fits : IsEntry e
-  pub text : bytes ≡ entry_text e
-  pub alone : (other : Entry) → IsEntry other → bytes ≡ entry_text other → other ≡ e
-
--- why a line of this number is refused
-abbrev pub RefusesLine : ℕ → List ℕ → ScheduleError → Type 0
-RefusesLine number bytes (BadLine n) = (n ≡ number) × IsNoEntry bytes
-RefusesLine number bytes Memory = (e : Entry) × Says bytes e

@@ -4,15 +4,15 @@ ghost use Rattle.std.specs.List.{AllByRecursion};
 ghost use Rattle.thread_sched.specs.ScheduleText.{HasEntry, IsBadLine, IsEntry, IsText, schedule_text};
 ghost use Rattle.thread_sched.specs.declared.entry.Entry.{Entry};
 
-/// The text of turns is that of no other turns.
+/// Different lists of turns have different texts.
 pub fn a_recording_is_read_as_its_turns()
     ensures same { (turns other : List Entry) → AllByRecursion IsEntry turns
         → AllByRecursion IsEntry other → IsText (schedule_text turns) other → other ≡ turns }
     ensures read { (turns : List Entry) → IsText (schedule_text turns) turns }
 {}
 
-/// A text reads in one way: as the entries of which it is the text, or else by its first line that is no entry's. Where
-/// that is the first of all, memory is not wanted.
+/// A text has one reading: the entries whose text it is, or else the number of its first line that is not an entry's. Where
+/// that is line 1, no reading ends for want of memory.
 pub fn a_text_reads_in_one_way()
     ensures entries { (text : List ℕ) (entries other : List Entry) → AllByRecursion IsEntry entries
         → AllByRecursion IsEntry other → IsText text entries → IsText text other → other ≡ entries }

@@ -1,7 +1,8 @@
 //! Schedules, and their text.
 ghost use Rattle.std.specs.Prelude.{◌≡◌, ◌+◌, List, [], ◌∷◌, ◌++◌, length, IfErr, IfOk, MatchResult, OnOk};
 ghost use Rattle.std.specs.List.{AllByRecursion};
-ghost use Rattle.thread_sched.specs.ScheduleText.{IsEntry, IsScheduleRefused, IsText, RefusesLine, Says};
+ghost use Rattle.thread_sched.specs.ScheduleText.{IsEntry, IsScheduleRefused, IsText};
+ghost use Rattle.thread_sched.specs.Private.Lines.{RefusesLine, Says};
 ghost use Rattle.thread_sched.specs.declared.entry.Entry.{Entry};
 
 use crate::Entry;
@@ -29,7 +30,7 @@ impl Model for Schedule {
 /// Why a text is no schedule.
 #[derive(Clone, Copy, Debug, PartialEq, Eq, Error)]
 pub enum ScheduleError {
-    /// The first line, counted from 1, that is no entry's.
+    /// The number, counted from 1, of the first line that is not an entry's.
     #[error("line {line} is no entry")]
     BadLine { line: u64 },
     /// Out of memory.

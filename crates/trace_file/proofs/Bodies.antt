@@ -18,7 +18,8 @@ use Rattle.trace_file.specs.declared.record_reader.Stop.{Stop}
 use Rattle.trace_file.specs.declared.record_reader.Stop.TheVariants.{Begun, NoForm, Memory}
 use Rattle.trace_file.specs.Records.{AreInRanges, Fits, form, head, name_bytes, number_bytes, numbers, ranges, record_bytes}
 use Rattle.trace_file.specs.Private.Made.{IsMade}
-use Rattle.trace_file.specs.Pieces.{AreNumbers, HasNameBody, IsBegun, IsBody, IsHead, IsNameOf, IsNone, IsRecord, Stops, body}
+use Rattle.trace_file.specs.Pieces.{IsBegun, IsNone, IsRecord}
+use Rattle.trace_file.specs.Private.RecordParts.{AreNumbers, HasNameBody, IsBody, IsHead, IsNameOf, Stops, body}
 use Rattle.guest_words.specs.Endings.{kind_number}
 use Rattle.trace_file.proofs.Heads.{one_head}
 use Rattle.trace_file.proofs.NameBytes.{named_filler}

@@ -14,7 +14,8 @@ use Rattle.trace_file.specs.declared.record_reader.Stop.TheVariants.{Begun, NoFo
 use Rattle.trace_file.specs.declared.errors.TraceError.{TraceError}
 use Rattle.trace_file.specs.declared.errors.TraceError.TheVariants as errors
 use Rattle.trace_file.specs.Records.{Fits, record_bytes}
-use Rattle.trace_file.specs.Pieces.{IsBegun, IsNone, IsRecord, Stops}
+use Rattle.trace_file.specs.Pieces.{IsBegun, IsNone, IsRecord}
+use Rattle.trace_file.specs.Private.RecordParts.{Stops}
 use Rattle.trace_file.specs.Reading.{HasFed, HasNext, HasRead, HasReadBy, IsAtLine, IsAtRecord, IsOutOfOrder, IsReading, IsTraceRefused, ReaderState, RunsOutOfMemory, told_by}
 use Rattle.trace_file.specs.Private.Steps.{GoesOnOr, IsFed, IsInOrder, IsNotAdded, IsOpen, IsTaken, MayReadByte, said}
 use Rattle.trace_file.proofs.ReadBytes.{behind_end, held_more, line_more, no_form, other_line, no_memory, not_added, open_of, stays, taken, text_push, whole_held}

@@ -3,7 +3,8 @@ use Rattle.std.proofs.Common.{Option, Some, None, if◌then◌else◌, nat_eq, �
 use Rattle.trace_file.specs.declared.records.Form.{Form}
 use Rattle.trace_file.specs.declared.records.Form.TheVariants.{Step, Read, Write, Fill, Call, Ret, Start, End, Named, Exit, Fault, Budget, Deadlock, Deep, Schedule}
 use Rattle.trace_file.specs.Records.{head}
-use Rattle.trace_file.specs.Pieces.{IsBegun, IsHead}
+use Rattle.trace_file.specs.Pieces.{IsBegun}
+use Rattle.trace_file.specs.Private.RecordParts.{IsHead}
 
 some : (f : Form) (rest : List ℕ) → 1 ≤ length (head f ++ rest)
 some Step rest = omega arith

@@ -12,7 +12,8 @@ use Rattle.trace_file.specs.declared.record_reader.Stop.{Stop}
 use Rattle.trace_file.specs.declared.record_reader.Stop.TheVariants.{Begun, NoForm, Memory}
 use Rattle.trace_file.specs.Records.{IsIn, AreInRanges, number_bytes}
 use Rattle.trace_file.specs.Private.Made.{IsSoundRange}
-use Rattle.trace_file.specs.Pieces.{AreNumbers, IsBegun, Stops}
+use Rattle.trace_file.specs.Pieces.{IsBegun}
+use Rattle.trace_file.specs.Private.RecordParts.{AreNumbers, Stops}
 use Rattle.trace_file.proofs.OneNumber.{Four, as_four}
 
 -- a number's bytes are followed by one rest

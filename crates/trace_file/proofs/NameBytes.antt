@@ -9,7 +9,8 @@ use Rattle.std.proofs.lemmas.List.{length-replicate, take-append-drop, take-appe
 use Rattle.std.proofs.lemmas.List.Folds.{list_all-append}
 use Rattle.guest_words.specs.Names.{is_dash, is_name, is_visible}
 use Rattle.guest_words.specs.declared.limits.TheConstants.{NAME_BYTES}
-use Rattle.trace_file.specs.Pieces.{IsBegun, IsNameOf, IsNone}
+use Rattle.trace_file.specs.Pieces.{IsBegun, IsNone}
+use Rattle.trace_file.specs.Private.RecordParts.{IsNameOf}
 
 pub visible_filler : (n : ℕ) → list_all is_visible (replicate n 97) ≡ true
 visible_filler zero = refl

@@ -7,7 +7,8 @@ use Rattle.byteorder.specs.Endian.{little_number}
 use Rattle.trace_file.specs.declared.records.Range.{Range}
 use Rattle.trace_file.specs.Records.{IsIn, number_bytes}
 use Rattle.trace_file.specs.Private.Made.{IsLeastNumber}
-use Rattle.trace_file.specs.Pieces.{AreNumbers, IsBegun, IsNone}
+use Rattle.trace_file.specs.Pieces.{IsBegun, IsNone}
+use Rattle.trace_file.specs.Private.RecordParts.{AreNumbers}
 
 abbrev AreBytes : List ℕ → Type 0
 AreBytes bytes = (i : ℕ) → get_or bytes i 0 < 256

@@ -11,7 +11,7 @@ use Rattle.trace_file.specs.declared.records.Range.{Range}
 use Rattle.trace_file.specs.declared.records.Record.{Record}
 use Rattle.trace_file.specs.declared.records.Record.TheVariants.{OfEvent, OfName, OfFinish}
 use Rattle.trace_file.specs.Records.{AreInRanges, Fits, form, head, name_bytes, number_bytes, numbers, ranges, record_bytes}
-use Rattle.trace_file.specs.Pieces.{body}
+use Rattle.trace_file.specs.Private.RecordParts.{body}
 use Rattle.guest_words.proofs.FaultKinds.{kind_at, kind_back}
 use Rattle.trace_file.proofs.Heads.{one_head}
 use Rattle.trace_file.proofs.ManyNumbers.{one_number, same_rest}

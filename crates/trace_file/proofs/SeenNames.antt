@@ -8,7 +8,8 @@ use Rattle.std.proofs.lemmas.List.{append-nil, take-append-drop, take_all}
 use Rattle.std.proofs.lemmas.List.Folds.{list_all-append}
 use Rattle.guest_words.specs.Names.{is_visible}
 use Rattle.trace_file.specs.declared.records.Form.TheVariants.{Named}
-use Rattle.trace_file.specs.Pieces.{IsBegun, IsRecord, body}
+use Rattle.trace_file.specs.Pieces.{IsBegun, IsRecord}
+use Rattle.trace_file.specs.Private.RecordParts.{body}
 use Rattle.trace_file.specs.Records.{AreInRanges, head, number_bytes, ranges}
 use Rattle.trace_file.specs.Private.Seen.{IsSeen}
 use Rattle.trace_file.proofs.Bodies.{behind_head, name_parts}

@@ -7,13 +7,13 @@ use Rattle.trace_file.specs.declared.errors.TraceError.TheVariants as errors
 use Rattle.trace_file.specs.Reading.{Begins, IsTraceRefused}
 use Rattle.trace_file.specs.TraceText.{IsTrace, Names}
 
--- No two traces have one text.
+-- Different traces have different texts.
 abbrev pub TextIsOfOneTrace : Type 0
 TextIsOfOneTrace =
     (bytes : List ℕ) (past past' : List Event) (names names' : Names) (f f' : Finish) → IsTrace bytes past names f → IsTrace bytes past' names' f' →
     (past ≡ past') × (names ≡ names') × (f ≡ f')
 
--- Bytes are refused in one way, with one list of events before the refusal.
+-- There is one refusal of bytes, with one list of events before it, but for want of memory.
 abbrev pub BytesAreRefusedInOneWay : Type 0
 BytesAreRefusedInOneWay =
     (bytes : List ℕ) (past past' : List Event) (e e' : TraceError) → IsTraceRefused bytes past e → IsTraceRefused bytes past' e' → e ≢ errors.Memory → e' ≢ errors.Memory →

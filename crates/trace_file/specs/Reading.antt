@@ -24,7 +24,7 @@ pub record IsInLine (bytes : List ℕ) : Type 0 where
   pub some : more ≢ []
   pub whole : bytes ++ more ≡ magic
 
--- Nothing fails in a rest: behind the end there is none, and before it the rest is the beginning of a record.
+-- Nothing fails in a rest: behind the end it is empty, and before that it is the beginning of a record.
 abbrev pub GoesOn : Option Finish → List ℕ → Type 0
 GoesOn None rest = IsBegun IsRecord rest
 GoesOn (Some f) rest = rest ≡ []
@@ -77,8 +77,8 @@ pub record Begins (bytes : List ℕ) (past : List Event) : Type 0 where
   pub leads : Leads bytes told rest
   pub events : told.past ≡ past
 
--- The bytes are refused so, and these are the events of the records before the first that fails. When out of memory they
--- are those of some records before it.
+-- The bytes are refused so, and these are the events of the records before the first that fails. Where memory runs out, they
+-- are the events of some records at the beginning.
 abbrev pub IsTraceRefused : List ℕ → List Event → TraceError → Type 0
 IsTraceRefused bytes past errors.Magic = ((more rest : List ℕ) → bytes ++ more ≢ magic ++ rest) × (past ≡ [])
 IsTraceRefused bytes past (errors.Record at) = FailsForm bytes past at

@@ -6,7 +6,8 @@ ghost use Rattle.trace_file.specs.declared.records.Record.{Record};
 ghost use Rattle.guest_words.specs.Endings.{kind_number};
 ghost use Rattle.guest_words.specs.Names.{is_name, is_visible};
 ghost use Rattle.guest_words.specs.declared.limits.TheConstants.{NAME_BYTES};
-ghost use Rattle.trace_file.specs.Pieces.{AreNumbers, HasName, HasNameBody, IsBegun, IsBody, IsHead, IsNameOf, IsNone, IsRecord, Stops, body};
+ghost use Rattle.trace_file.specs.Pieces.{IsBegun, IsNone, IsRecord};
+ghost use Rattle.trace_file.specs.Private.RecordParts.{AreNumbers, HasName, HasNameBody, IsBody, IsHead, IsNameOf, Stops, body};
 ghost use Rattle.trace_file.specs.Private.Seen.{IsSeen};
 ghost use Rattle.trace_file.specs.declared.records.Record.TheVariants.{OfEvent, OfFinish};
 ghost use Rattle.trace_file.specs.Records.{AreInRanges, Fits, IsIn, form, head, number_bytes, ranges, record_bytes, thread};
@@ -285,7 +286,7 @@ fn made_event(form: Form, a: u32, b: u32, c: u32) -> Option<Event>
     }
 }
 
-// The end of a form with these numbers. The line 0 of a schedule is none.
+// The end of a form with these numbers. A schedule has no line 0.
 fn made_finish(form: Form, a: u32, b: u32, c: u32) -> Option<Finish>
     requires plain { form ≢ Form.Named }
     requires later { is_event form ≡ false }
@@ -314,7 +315,7 @@ fn made_finish(form: Form, a: u32, b: u32, c: u32) -> Option<Finish>
     }
 }
 
-// The record of a form with these numbers, which is not a name. The line 0 of a schedule is none.
+// The record of a form with these numbers, which is not a name. A schedule has no line 0.
 fn made(form: Form, a: u32, b: u32, c: u32) -> Option<Record>
     requires plain { form ≢ Form.Named }
     requires fits { AreInRanges (take (length (ranges form)) (a ∷ b ∷ c ∷ [])) (ranges form) }

@@ -6,7 +6,7 @@ use Rattle.trace_model.specs.declared.event_kinds.Event.TheVariants.{Call, End, 
 use Rattle.trace_model.specs.declared.slow_profile.Done.{Done}
 use Rattle.context_tree.specs.Branches.{KeptBranches, current_of}
 use Rattle.context_tree.specs.Links.{IsLinked}
-use Rattle.context_tree.specs.Ways.{ArePoints, IsWay}
+use Rattle.context_tree.specs.Private.Ways.{ArePoints, IsWay}
 
 -- Each context has its points, which have room for one activation more, and its links.
 pub record IsWhole (kept : KeptBranches) : Type 0 where

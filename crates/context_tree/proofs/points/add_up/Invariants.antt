@@ -2,7 +2,7 @@ use Rattle.std.proofs.Common.{◌≡◌, ◌++◌, ◌<◌, ℕ, List, length, g
 use Rattle.trace_model.specs.declared.slow_profile.Done.{Done}
 use Rattle.context_tree.specs.Numbers.{NumbersStandFor}
 use Rattle.context_tree.specs.Points.{points_of}
-use Rattle.context_tree.specs.Ways.{lists, no_points, tagged, up}
+use Rattle.context_tree.specs.Private.Ways.{lists, no_points, tagged, up}
 use Rattle.context_tree.proofs.points.add_up.Given as goal
 
 abbrev pub invariant-loop-done : goal.invariant-loop-done

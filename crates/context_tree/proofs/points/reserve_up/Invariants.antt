@@ -1,5 +1,5 @@
 use Rattle.std.proofs.Common.{◌≡◌, length}
-use Rattle.context_tree.specs.Ways.{HasSpare, lists, up}
+use Rattle.context_tree.specs.Private.Ways.{HasSpare, lists, up}
 use Rattle.context_tree.proofs.points.reserve_up.Given as goal
 
 abbrev pub invariant-loop : goal.invariant-loop

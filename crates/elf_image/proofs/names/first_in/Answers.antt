@@ -3,7 +3,7 @@ use Rattle.std.specs.List.{All}
 use Rattle.std.proofs.lemmas.List.Sorted.{All-permutation}
 use Rattle.std.proofs.lemmas.Result.{IfOk-weaker}
 use Rattle.elf_image.specs.Private.FirstSymbols.{AreFirst, IsEntry, symbols_of_entries}
-use Rattle.elf_image.specs.Places.{placed}
+use Rattle.elf_image.specs.Private.Places.{placed}
 use Rattle.elf_image.specs.Symbols.{symbols_in}
 use Rattle.elf_image.proofs.Entries.{all_entries, all_symbols, first_reordered}
 use Rattle.elf_image.proofs.names.first_in.Goals as goal

@@ -2,7 +2,7 @@ use Rattle.std.proofs.Common.{◌≡◌, ◌<◌, ◌≤◌, ◌++◌, [], ◌+�
 use Rattle.std.specs.List.{cons_option}
 use Rattle.std.specs.Option.{IfSome, option_map}
 use Rattle.std.proofs.lemmas.List.Elements.{All-nil}
-use Rattle.elf_image.specs.Places.{IsNamed, placed}
+use Rattle.elf_image.specs.Private.Places.{IsNamed, placed}
 use Rattle.elf_image.proofs.Placed.{below_placed}
 use Rattle.std.specs.List.{All}
 use Rattle.elf_image.specs.Private.FirstSymbols.{AreFirst, symbols_of_entries}

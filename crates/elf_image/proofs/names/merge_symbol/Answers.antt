@@ -2,7 +2,7 @@ use Rattle.std.proofs.Common.{◌≡◌, ◌≢◌, ◌-◌, ◌<◌, false, tru
 use Rattle.std.proofs.lemmas.List.{get_or_read_under}
 use Rattle.std.proofs.lemmas.List.Elements.{All-push, All-set}
 use Rattle.elf_image.specs.declared.symbols.SymbolPlace.{SymbolPlace}
-use Rattle.elf_image.specs.Places.{IsNamed, placed}
+use Rattle.elf_image.specs.Private.Places.{IsNamed, placed}
 use Rattle.elf_image.specs.Symbols.{goes_before}
 use Rattle.elf_image.proofs.Placed.{no_place, placed_kept, placed_pushed, placed_replaced}
 use Rattle.elf_image.proofs.names.merge_symbol.Goals.{then-len-eq0-via-then-len-eq0, then-len-eq0-via-else-len-eq0+then-index-symbol}

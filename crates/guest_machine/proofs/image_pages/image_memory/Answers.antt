@@ -1,5 +1,5 @@
 use Rattle.std.proofs.Common.{◌∙◌, ap}
-use Rattle.guest_machine.specs.Setup.{mapped_below}
+use Rattle.guest_machine.specs.Private.Setup.{mapped_below}
 use Rattle.guest_machine.proofs.ImagePages.{table_whole}
 use Rattle.guest_machine.proofs.image_pages.image_memory.Goals as goal
 

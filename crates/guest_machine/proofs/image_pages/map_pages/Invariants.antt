@@ -1,6 +1,6 @@
 use Rattle.std.proofs.Common.{◌≡◌}
 use Rattle.guest_memory.specs.Guest.{memory_of}
-use Rattle.guest_machine.specs.Setup.{mapped_below}
+use Rattle.guest_machine.specs.Private.Setup.{mapped_below}
 use Rattle.guest_machine.proofs.image_pages.map_pages.Given as goal
 
 abbrev pub invariant-loop-page : goal.invariant-loop-page

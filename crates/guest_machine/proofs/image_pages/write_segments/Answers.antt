@@ -1,7 +1,7 @@
 use Rattle.std.proofs.Common.{◌∙◌, ◌/◌, ap, take}
 use Rattle.std.specs.Option.{is_some}
 use Rattle.guest_memory.specs.Memory.{Memory}
-use Rattle.guest_machine.specs.Setup.{pages_of}
+use Rattle.guest_machine.specs.Private.Setup.{pages_of}
 use Rattle.guest_machine.proofs.ImagePages.{segment_mapped, written_rights}
 use Rattle.guest_machine.proofs.image_pages.write_segments.Goals as goal
 

@@ -3,7 +3,7 @@ use Rattle.std.specs.Result.{IfErr}
 use Rattle.std.proofs.lemmas.Result.{err_from_is_err_and}
 use Rattle.std.specs.Prelude.{◌≡◌}
 use Rattle.trace_file.specs.declared.record_reader.Stop.TheVariants.{Memory}
-use Rattle.trace_file.specs.Pieces.{AreNumbers, HasNameBody, IsBody, Stops}
+use Rattle.trace_file.specs.Private.RecordParts.{AreNumbers, HasNameBody, IsBody, Stops}
 use Rattle.trace_file.proofs.Bodies.{found_name, found_record, has_numbers, numbers_stop, stop_line, stop_name, wanted_name}
 use Rattle.trace_file.proofs.record_reader.read_body.Goals as goal
 

@@ -1,7 +1,7 @@
 use Rattle.std.proofs.Common.{rules, sym, subst, arith}
 use Rattle.std.specs.Result.{IfErr}
 use Rattle.std.proofs.lemmas.Result.{err_from_is_err_and}
-use Rattle.trace_file.specs.Pieces.{AreNumbers, Stops}
+use Rattle.trace_file.specs.Private.RecordParts.{AreNumbers, Stops}
 use Rattle.trace_file.proofs.ManyNumbers.{read_text, read_within, stops_at}
 use Rattle.trace_file.proofs.record_reader.read_numbers.Goals as goal
 

@@ -8,7 +8,8 @@ use Rattle.trace_file.specs.Records.{head}
 use Rattle.trace_file.proofs.SeenNames.{seen_name}
 use Rattle.std.specs.Result.{IfErr}
 use Rattle.std.proofs.lemmas.Result.{IfErr-weaker, IfOk-weaker, err_from_is_err_and}
-use Rattle.trace_file.specs.Pieces.{HasName, IsRecord, Stops}
+use Rattle.trace_file.specs.Pieces.{IsRecord}
+use Rattle.trace_file.specs.Private.RecordParts.{HasName, Stops}
 use Rattle.trace_file.proofs.Bodies.{body_stop, head_stop, whole_record}
 use Rattle.trace_file.proofs.record_reader.read_record.Goals as goal
 

@@ -27,8 +27,8 @@ end-requires-clause-way c = subst (λ (e : Event). Takes c.args.self.now e c.arg
 pub returns-in-Call-clause-too_many : goal.returns-in-Call-clause-too_many
 returns-in-Call-clause-too_many c = λ past stands told. subst (λ (e : Event). HasTooMany e past) (sym c.in-Call.is) (c.call.ensures.too_many past c.in-Call.back stands told)
 
-pub returns-in-Call-clause-only_memory : goal.returns-in-Call-clause-only_memory
-returns-in-Call-clause-only_memory c = λ past stands many. c.call.ensures.only_memory past c.in-Call.back stands (subst (λ (e : Event). HasTooMany e past) c.in-Call.is many)
+pub returns-in-Call-clause-always_too_many : goal.returns-in-Call-clause-always_too_many
+returns-in-Call-clause-always_too_many c = λ past stands many. c.call.ensures.always_too_many past c.in-Call.back stands (subst (λ (e : Event). HasTooMany e past) c.in-Call.is many)
 
 pub returns-in_ok-return_from-in-Ret-clause-stands : goal.returns-in_ok-return_from-in-Ret-clause-stands
 returns-in_ok-return_from-in-Ret-clause-stands c = λ past stands are.

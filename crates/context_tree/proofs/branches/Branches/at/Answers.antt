@@ -5,7 +5,7 @@ use Rattle.context_tree.specs.Contexts.{contexts}
 use Rattle.context_tree.specs.Links.{links_at, no_links}
 use Rattle.context_tree.specs.Numbers.{numbered}
 use Rattle.context_tree.specs.Branches.{KeptBranches, BranchesStandFor}
-use Rattle.context_tree.specs.Ways.{PointList, lists}
+use Rattle.context_tree.specs.Private.Ways.{PointList, lists}
 use Rattle.context_tree.proofs.Climbing.{there_is}
 use Rattle.context_tree.proofs.Following.{as_many, points_at}
 use Rattle.context_tree.proofs.Listed.{depth_is}

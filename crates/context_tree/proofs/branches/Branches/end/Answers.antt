@@ -1,7 +1,7 @@
 use Rattle.std.proofs.Common.{◌≡◌, ◌∙◌, ◌++◌, All, map, refl, sym, ap, subst}
 use Rattle.context_tree.specs.Points.{points_of}
 use Rattle.context_tree.specs.Branches.{KeptBranches, BranchesStandFor, current_of}
-use Rattle.context_tree.specs.Ways.{ArePoints, lists, tagged}
+use Rattle.context_tree.specs.Private.Ways.{ArePoints, lists, tagged}
 use Rattle.context_tree.proofs.Following.{stands-end}
 use Rattle.context_tree.proofs.branches.Branches.end.Goals as goal
 

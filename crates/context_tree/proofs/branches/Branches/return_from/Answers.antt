@@ -3,7 +3,7 @@ use Rattle.std.specs.Prelude.{is_some}
 use Rattle.guest_words.specs.ByThread.{value_of}
 use Rattle.context_tree.specs.Points.{points_of}
 use Rattle.context_tree.specs.Branches.{KeptBranches, BranchesStandFor, current_of}
-use Rattle.context_tree.specs.Ways.{ArePoints, lists, tagged, up}
+use Rattle.context_tree.specs.Private.Ways.{ArePoints, lists, tagged, up}
 use Rattle.context_tree.proofs.Following.{stands-return}
 use Rattle.context_tree.proofs.branches.Branches.return_from.Goals as goal
 

@@ -12,24 +12,24 @@ returns-then-is_beyond-clause-too_many c = λ past stands told.
     let above = subst (λ (k : KeptBranches). All (λ n. n < c.args.tid) (numbers k.threads)) (sym c.self.view_is) c.requires.above in
     subst (IsBeyond (contexts past)) (sym (own-start _ past c.args.tid c.args.entry above s)) (c.is_beyond.ensures.yes (contexts past) s.contexts_are c.if-is_beyond.true)
 
-pub returns-in_err-reserve-clause-only_memory : goal.returns-in_err-reserve-clause-only_memory
-returns-in_err-reserve-clause-only_memory c = λ past stands beyond.
+pub returns-in_err-reserve-clause-always_too_many : goal.returns-in_err-reserve-clause-always_too_many
+returns-in_err-reserve-clause-always_too_many c = λ past stands beyond.
     let s = subst (λ (k : KeptBranches). BranchesStandFor k past) (sym c.self.view_is) stands in
     let above = subst (λ (k : KeptBranches). All (λ n. n < c.args.tid) (numbers k.threads)) (sym c.self.view_is) c.requires.above in
     let yes = c.is_beyond.ensures.no (contexts past) s.contexts_are (subst (IsBeyond (contexts past)) (own-start _ past c.args.tid c.args.entry above s) beyond) in
     let no = c.if-is_beyond.false in
     absurd (cc)
 
-pub returns-in_err-number-clause-only_memory : goal.returns-in_err-number-clause-only_memory
-returns-in_err-number-clause-only_memory c = λ past stands beyond.
+pub returns-in_err-number-clause-always_too_many : goal.returns-in_err-number-clause-always_too_many
+returns-in_err-number-clause-always_too_many c = λ past stands beyond.
     let s = subst (λ (k : KeptBranches). BranchesStandFor k past) (sym c.self.view_is) stands in
     let above = subst (λ (k : KeptBranches). All (λ n. n < c.args.tid) (numbers k.threads)) (sym c.self.view_is) c.requires.above in
     let yes = c.is_beyond.ensures.no (contexts past) s.contexts_are (subst (IsBeyond (contexts past)) (own-start _ past c.args.tid c.args.entry above s) beyond) in
     let no = c.if-is_beyond.false in
     absurd (cc)
 
-pub returns-clause-only_memory : goal.returns-clause-only_memory
-returns-clause-only_memory c = λ past stands beyond.
+pub returns-clause-always_too_many : goal.returns-clause-always_too_many
+returns-clause-always_too_many c = λ past stands beyond.
     let s = subst (λ (k : KeptBranches). BranchesStandFor k past) (sym c.self.view_is) stands in
     let above = subst (λ (k : KeptBranches). All (λ n. n < c.args.tid) (numbers k.threads)) (sym c.self.view_is) c.requires.above in
     let yes = c.is_beyond.ensures.no (contexts past) s.contexts_are (subst (IsBeyond (contexts past)) (own-start _ past c.args.tid c.args.entry above s) beyond) in

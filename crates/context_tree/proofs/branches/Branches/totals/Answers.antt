@@ -7,7 +7,7 @@ use Rattle.context_tree.specs.Contexts.{contexts}
 use Rattle.context_tree.specs.Numbers.{numbered}
 use Rattle.context_tree.specs.Points.{done_in_context, members_of}
 use Rattle.context_tree.specs.Branches.{KeptBranches, BranchesStandFor}
-use Rattle.context_tree.specs.Ways.{PointList, lists}
+use Rattle.context_tree.specs.Private.Ways.{PointList, lists}
 use Rattle.context_tree.proofs.Climbing.{there_is}
 use Rattle.context_tree.proofs.Following.{as_many}
 use Rattle.context_tree.proofs.Once.{point_once}

@@ -44,8 +44,8 @@ returns-clause-number c = λ contexts stands.
       | in-Err w ↦ if_err_is c.match-insert_full.result _ (λ n. IsNumberOf (with_context contexts (numbered contexts c.args.above ++ c.args.entry ∷ [])) n (numbered contexts c.args.above ++ c.args.entry ∷ [])) w.result-is
     ]
 
-pub returns-clause-only_memory : goal.returns-clause-only_memory
-returns-clause-only_memory c = λ contexts stands beyond.
+pub returns-clause-always_too_many : goal.returns-clause-always_too_many
+returns-clause-always_too_many c = λ contexts stands beyond.
     let s = subst (λ (ps : List (ℕ × ℕ)). NumbersStandFor ps contexts) (sym c.self.view_is) stands in
     let inside : c.args.above ≤ length contexts = omega (arith, c.requires, stands.long) in
     let agree = any_is c.self.inside.places.keys contexts s c.args.above c.args.entry inside in

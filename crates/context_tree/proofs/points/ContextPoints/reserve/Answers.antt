@@ -1,5 +1,5 @@
 use Rattle.std.proofs.Common.{subst, sym}
-use Rattle.context_tree.specs.Ways.{ArePoints}
+use Rattle.context_tree.specs.Private.Ways.{ArePoints}
 use Rattle.context_tree.proofs.points.ContextPoints.reserve.Goals as goal
 
 pub join-requires-clause-points : goal.join-requires-clause-points

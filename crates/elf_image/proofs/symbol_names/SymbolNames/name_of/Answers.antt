@@ -2,7 +2,7 @@ use Rattle.std.proofs.Common.{◌≡◌, ◌<◌, List, Some, get_or, length, ma
 use Rattle.std.specs.List.{AllPairs}
 use Rattle.std.proofs.lemmas.List.{get_or_read_under}
 use Rattle.elf_image.specs.Image.{name_beside}
-use Rattle.elf_image.specs.Places.{placed}
+use Rattle.elf_image.specs.Private.Places.{placed}
 use Rattle.elf_image.specs.Symbols.{Symbol}
 use Rattle.elf_image.proofs.Placed.{named_by, no_place, unnamed, values_rise}
 use Rattle.elf_image.proofs.symbol_names.SymbolNames.name_of.Goals as goal

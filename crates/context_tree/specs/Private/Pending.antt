@@ -4,7 +4,7 @@ use Rattle.cost_points.specs.declared.point.Point.{Point}
 use Rattle.cost_points.specs.Keys.{put}
 use Rattle.cost_points.specs.Merging.{merged}
 use Rattle.cost_points.specs.Search.{HasRoom}
-use Rattle.context_tree.specs.Ways.{ArePoints, PointList}
+use Rattle.context_tree.specs.Private.Ways.{ArePoints, PointList}
 
 -- points that may be none
 abbrev pub known : Option (List Point) → List Point
