@@ -1,6 +1,7 @@
 #!/usr/bin/env python3
 """Checks what the documents name and count: each name in backquotes stands somewhere in the sources, each file exists, each clause
-in the table of PROOFS.md is one of its crate, and each count below is that of the sources. Status 0 where all is so."""
+in the table of PROOFS.md is one of its crate, each file of definitions that the headline rests on is named in DEFINITIONS.md, and
+each count below is that of the sources. Status 0 where all is so."""
 from __future__ import annotations
 
 import re
@@ -9,6 +10,8 @@ from collections.abc import Callable, Iterator
 from dataclasses import dataclass
 from functools import cache
 from pathlib import Path
+
+from headline_files import headline_files, unnamed
 
 TOP = Path(__file__).resolve().parent.parent
 CRATES = TOP / "crates"
@@ -159,6 +162,8 @@ def mistakes() -> Iterator[str]:
         yield from (f"{name}: `{span}` is no name of the sources" for span in unknown_names(text))
         yield from (f"{name}: no file {path}" for path in missing_files(text))
     yield from (f"docs/PROOFS.md: no clause {clause}" for clause in unknown_clauses(text_of(TOP / "docs/PROOFS.md")))
+    definitions = text_of(TOP / "docs/DEFINITIONS.md")
+    yield from (f"docs/DEFINITIONS.md: does not name {file}" for file in unnamed(headline_files(CRATES), definitions))
     yield from (mistake for mistake in map(wrong_count, COUNTS) if mistake)
 
 
