@@ -37,8 +37,8 @@ def read_imports(text: str) -> Source:
     for crate, module, names, alias in IMPORT.findall(text):
         if alias:
             source.modules[alias] = (crate, module)
-        for name in filter(None, (name.strip() for name in names.split(","))):
-            theirs, _, ours = name.partition(" as ")
+        for each in filter(None, map(str.strip, names.split(","))):
+            theirs, _, ours = each.partition(" as ")
             source.names[ours or theirs] = ((crate, module), theirs)
     return source
 

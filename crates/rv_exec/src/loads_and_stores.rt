@@ -131,8 +131,10 @@ fn load_as(
 ) -> Result<(), FaultKind>
     ensures readable { result ≡ (if can_read (memory_of memory.now) at (byte_count (load_size kind))
         then Ok tt else Err fault.Load) }
-    ensures loaded { IfOk result (λ _. cpu.new ≡ record cpu.old { regs = written cpu.old rd
-        (extended kind (number_at (memory_of memory.now) at (byte_count (load_size kind)))) }) }
+    ensures loaded { IfOk result (λ _. cpu.new ≡ record cpu.old {
+      regs = written cpu.old rd
+          (extended kind (number_at (memory_of memory.now) at (byte_count (load_size kind))));
+    }) }
     ensures kept { IfErr result (λ _. cpu.new ≡ cpu.old) }
     ensures end { IfOk result (λ _. at + byte_count (load_size kind) ≤ 2 ^ 32) }
 {
@@ -157,8 +159,10 @@ fn load_apart(
 ) -> Result<(), FaultKind>
     ensures readable { result ≡ (if can_read (memory_of memory.now) at (byte_count (load_size kind))
         then Ok tt else Err fault.Load) }
-    ensures loaded { IfOk result (λ _. cpu.new ≡ record cpu.old { regs = written cpu.old rd
-        (extended kind (number_at (memory_of memory.now) at (byte_count (load_size kind)))) }) }
+    ensures loaded { IfOk result (λ _. cpu.new ≡ record cpu.old {
+      regs = written cpu.old rd
+          (extended kind (number_at (memory_of memory.now) at (byte_count (load_size kind))));
+    }) }
     ensures kept { IfErr result (λ _. cpu.new ≡ cpu.old) }
     ensures end { IfOk result (λ _. at + byte_count (load_size kind) ≤ 2 ^ 32) }
 {
