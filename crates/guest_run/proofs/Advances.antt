@@ -25,12 +25,12 @@ use Rattle.guest_run.specs.Private.CurrentTurn.{IsUnderWay, chosen_of, position,
 use Rattle.guest_run.specs.Private.Going.{Advances, IsGoing, IsOver, IsPastOf, Leads, Standing, observed, past_by, with_moves}
 use Rattle.guest_run.specs.Private.Going as going
 use Rattle.guest_run.specs.Machine.{Machine, Progress, guest}
-use Rattle.guest_run.specs.Output.{FailsOn, Sinks, with_output, with_sent}
+use Rattle.guest_run.specs.Output.{FailsOn, Sinks, with_output}
+use Rattle.guest_run.specs.Private.Steps.{with_sent, IsStepped, StepEnds}
 use Rattle.guest_run.specs.ObservedRun.{ObservedRun, observed_run}
 use Rattle.guest_run.specs.Run.{Move, Position, WrittenRun, after_step, by_turn_status, chosen, go_on, move_of, position_after, recording, run_from, with_move}
 use Rattle.guest_run.specs.Run.Chosen.{Moves, Stops}
 use Rattle.guest_run.specs.RunEnds.{IsGivenUp, StopsAtPut}
-use Rattle.guest_run.specs.Private.Steps.{IsStepped, StepEnds}
 use Rattle.guest_run.proofs.Able.{step_able}
 use Rattle.guest_run.proofs.Guarded.{goes_went}
 use Rattle.guest_run.proofs.Observed.{observed-after, past-last, observed_run-deep, observed_run-head, observed_run-none, observed_run-one, with_first}

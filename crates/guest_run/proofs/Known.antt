@@ -24,10 +24,10 @@ use Rattle.guest_run.specs.declared.turns.Recorder.{Recorder}
 use Rattle.guest_run.specs.Private.CurrentTurn.{chosen_of, position, recorded, with_present}
 use Rattle.guest_run.specs.Private.Going.{Advances, IsOver, MakesAMove, MayAdvance, Remains, Standing, moved, observed, past_by}
 use Rattle.guest_run.specs.Machine.{guest, turn_status_of}
-use Rattle.guest_run.specs.Output.{Sinks, with_sent}
+use Rattle.guest_run.specs.Output.{Sinks}
+use Rattle.guest_run.specs.Private.Steps.{with_sent, StepEnds}
 use Rattle.guest_run.specs.Run.{Move, Position, chosen, chosen_by, current, recording}
 use Rattle.guest_run.specs.RunEnds.{RunEnds}
-use Rattle.guest_run.specs.Private.Steps.{StepEnds}
 use Rattle.guest_run.proofs.Advances.{gives_up, goes_turn, may_take, over_moved}
 use Rattle.guest_run.proofs.Ends.{advances_by, ends_failed, may_advance, next_by, over_by}
 use Rattle.guest_run.proofs.Output.{output-none}

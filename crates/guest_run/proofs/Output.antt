@@ -4,7 +4,8 @@ use Rattle.std.specs.Io.KnownBytes.{append_known}
 use Rattle.guest_kernel.specs.declared.channel.Channel.{Channel}
 use Rattle.guest_kernel.specs.declared.channel.Channel.TheVariants as channel
 use Rattle.host_io.specs.Sink.{SinkState, appended}
-use Rattle.guest_run.specs.Output.{Sinks, with_output, with_sent}
+use Rattle.guest_run.specs.Output.{Sinks, with_output}
+use Rattle.guest_run.specs.Private.Steps.{with_sent}
 use Rattle.guest_run.specs.Run.{Move, bytes_on, events_of, sent}
 
 known-nil : (known : Option (List ℕ)) → append_known known [] ≡ known

@@ -71,8 +71,8 @@ RecordsObservedTurns =
 abbrev pub IsPrefix : {X : Type 0} → List X → List X → Type 0
 IsPrefix {X} xs ys = (rest : List X) × (xs ++ rest ≡ ys)
 
--- What is observed of a run is a part of it, from its begin on; a run whose whole past fits is observed whole, and any other
--- ends with `Deep`.
+-- What is observed of a run is a first part of it. A run whose whole past fits is observed whole, and any other ends with
+-- `Deep`.
 pub record IsProfileOf (fits : List Event → Bool) (past : List Event) (whole : WrittenRun) : Type 0 where
   pub moves : IsPrefix (observed_run fits past whole).moves whole.moves
   pub passed : fits (past_after past (events_of whole.moves)) ≡ true →

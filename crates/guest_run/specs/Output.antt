@@ -13,10 +13,6 @@ pub record Sinks : Type 0 where
 abbrev pub sinks : SinkState → SinkState → Sinks
 sinks out err = record { out = out; err = err }
 
--- the sinks with what one step put out
-abbrev pub with_sent : Option (Channel × List ℕ) → Sinks → Sinks
-with_sent out before = record { out = appended before.out (sent channel.Out out); err = appended before.err (sent channel.Err out) }
-
 -- the sinks with what moves put out
 abbrev pub with_output : List Move → Sinks → Sinks
 with_output moves before = record { out = appended before.out (bytes_on channel.Out moves); err = appended before.err (bytes_on channel.Err moves) }

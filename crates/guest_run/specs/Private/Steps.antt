@@ -14,7 +14,13 @@ use Rattle.guest_run.specs.declared.run_error.RunError.TheVariants.{CannotPut, M
 use Rattle.guest_run.specs.declared.turn_status.TurnStatus.{TurnStatus}
 use Rattle.guest_run.specs.declared.turn_status.TurnStatus.TheVariants.{Ends}
 use Rattle.guest_run.specs.Machine.{Progress, progress_of}
-use Rattle.guest_run.specs.Output.{FailsOn, FailsToPut, Sinks, with_sent}
+use Rattle.guest_run.specs.Output.{FailsOn, FailsToPut, Sinks}
+use Rattle.guest_kernel.specs.declared.channel.Channel.TheVariants as channels
+use Rattle.guest_run.specs.Run.{sent}
+
+-- the sinks with what one step put out
+abbrev pub with_sent : Option (Channel × List ℕ) → Sinks → Sinks
+with_sent out before = record { out = appended before.out (sent channels.Out out); err = appended before.err (sent channels.Err out) }
 
 -- how bytes are put on the sink of a channel
 abbrev pub PutEndsOn : Channel → List ℕ → SinkState → SinkState → Result Unit RunError → Type 0
