@@ -1,7 +1,7 @@
 -- Stores, one after another.
 use Rattle.std.proofs.Common.{◌≡◌, ℕ, ◌+◌, ◌<◌, List, [], ◌∷◌, ◌++◌, Some, Err, zero, suc, refl, sym, ap, ◌∙◌, subst, arith, length, map, take, get_or, slice_get}
 use Rattle.std.proofs.lemmas.List.{map-append, take_more}
-use Rattle.host_io.specs.Files.{FailsToPut, FilesState, StoreEnds, stored_in}
+use Rattle.host_io.specs.Files.{FailsToStore, FilesState, StoreEnds, stored_in}
 use Rattle.host_io.specs.declared.files.StoreError.{StoreError}
 use Rattle.host_io.specs.declared.files.StoreError.TheVariants as failure
 use Rattle.aprof_top.specs.declared.delivery.Store.{Store}
@@ -46,6 +46,6 @@ module _ (stores : List Store) (i : ℕ) (s : Store) (bytes : List ℕ) (old mid
     count = i;
     store = store_of s;
     next = store_at stores i s within is;
-    failed = subst (λ files. FailsToPut s.path.now files new) done_first ends;
+    failed = subst (λ files. FailsToStore s.path.now files new) done_first ends;
   }
   stores_stop failure.Memory ends = (i, ends ∙ done_first)

@@ -18,7 +18,8 @@ use Rattle.cost_points.proofs.Rising.{order, insert_below, insert_same, insert_a
 use Rattle.cost_points.proofs.Grouped.{having, having_none, grouped_is}
 use Rattle.profile_report.specs.Reported.{ReportedRoutine}
 use Rattle.aprof_top.specs.Report.{named}
-use Rattle.aprof_top.specs.Summary.{FitsTotals, activations, costs, sizes, total}
+use Rattle.aprof_top.specs.Summary.{activations, costs, sizes, total}
+use Rattle.aprof_top.specs.Private.Totals.{FitsTotals}
 
 -- a number at one key, and 0 elsewhere
 abbrev only : ℕ → ℕ → ℕ → ℕ

@@ -3,7 +3,7 @@ use Rattle.std.specs.Prelude.{◌≡◌, ◌⊎◌, ◌<◌, ℕ, List, [], ◌�
 use Rattle.std.specs.Io.KnownBytes.{append_known}
 use Rattle.guest_kernel.specs.declared.channel.Channel.TheVariants as channel
 use Rattle.host_io.specs.Faults.{Rose}
-use Rattle.host_io.specs.Files.{FilesState, FailsToPut}
+use Rattle.host_io.specs.Files.{FilesState, FailsToStore}
 use Rattle.host_io.specs.Sink.{SinkState, appended}
 use Rattle.aprof_top.specs.declared.ending.Verdict.TheVariants.{TooLarge}
 use Rattle.aprof_top.specs.Outcome.{Outcome, Write, err_of, out_of, put_on}
@@ -28,7 +28,7 @@ pub record StoreFails (stores : List (List ℕ × List ℕ)) (old new : FilesSta
   pub count : ℕ
   pub store : List ℕ × List ℕ
   pub next : slice_get stores count ≡ Some store
-  pub failed : FailsToPut store.0 (with_stores (take count stores) old) new
+  pub failed : FailsToStore store.0 (with_stores (take count stores) old) new
 
 -- All of the output was put, and a store failed.
 pub record FailsAtStore (outcome : Outcome) (before after : Outside) : Type 0 where

@@ -4,3 +4,4 @@ pub mod Jobs
 pub mod LastTexts
 pub mod Loading
 pub mod Preparing
+pub mod Totals

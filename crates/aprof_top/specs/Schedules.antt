@@ -4,7 +4,7 @@ use Rattle.std.specs.List.{AllByRecursion}
 use Rattle.thread_sched.specs.declared.entry.Entry.{Entry}
 use Rattle.thread_sched.specs.ScheduleText.{IsBadLine, IsEntry, IsText}
 
--- Its entries, or the first line that is none.
+-- Its entries, or the number of the first line that is not an entry's.
 pub data Reading : Type 0 where
   Turns : List Entry → Reading
   BadLine : ℕ → Reading

@@ -1,5 +1,5 @@
 -- The summary of a report: the demo's number, how the run ended, and the totals.
-use Rattle.std.specs.Prelude.{◌*◌, ◌<◌, ◌^◌, ℕ, List, ◌++◌, codes, length}
+use Rattle.std.specs.Prelude.{◌*◌, ℕ, List, ◌++◌, codes, length}
 use Rattle.std.specs.List.{sum_by}
 use Rattle.cost_points.specs.declared.point.Point.{Point}
 use Rattle.profile_report.specs.LineForms.{end_line, ended, labelled}
@@ -20,12 +20,6 @@ sizes routines = total (λ p. p.size * p.calls) routines
 -- the sum of the costs of all activations
 abbrev pub costs : List ReportedRoutine → ℕ
 costs routines = total (λ p. p.sum) routines
-
--- Each total is below 2^128.
-pub record FitsTotals (routines : List ReportedRoutine) : Type 0 where
-  pub activations : activations routines < 2 ^ 128
-  pub sizes : sizes routines < 2 ^ 128
-  pub costs : costs routines < 2 ^ 128
 
 -- the lines of a demo's summary
 abbrev pub summary_text : ℕ → Reported → List ℕ

@@ -2,7 +2,8 @@
 ghost use Rattle.std.specs.Prelude.{◌≡◌, ◌+◌, ◌++◌, ◌*◌, ◌<◌, ◌^◌, IfOk, OnOk};
 ghost use Rattle.std.specs.List.{sum_by};
 ghost use Rattle.profile_report.specs.LineForms.{ended, labelled};
-ghost use Rattle.aprof_top.specs.Summary.{FitsTotals, activations, costs, sizes, summary_text};
+ghost use Rattle.aprof_top.specs.Summary.{activations, costs, sizes, summary_text};
+ghost use Rattle.aprof_top.specs.Private.Totals.{FitsTotals};
 
 use cost_points::Point;
 use guest_words::push_decimal;

@@ -58,7 +58,7 @@ may_take Stands fits first start moves r observer going room now kept tid can = 
   past = past_by first moves;
   now = going.stands;
   fitting = going.fitting;
-  formed = (past_step now tid (past_by first moves) (past_kept r.state now (past_by first moves) kept going.past) can (omega (arith, going.few, room))).formed;
+  formed = (past_step now tid (past_by first moves) (past_kept r.state now (past_by first moves) kept going.past) can (omega (arith, going.few_steps, room))).formed;
 }
 
 -- where the run stands, what the step of a thread gives, and the move that it is
@@ -238,7 +238,7 @@ module _ {W : Type 0} (Stands : W → List Event → Type 0) (fits : List Event 
         goes-on fit leads ways began =
             let next = past_after (past_by first moves) (given_of now turn.tid).events in
             let there : next ≡ past_by first (moves ++ made_of now turn opens ∷ []) = sym (past-last first moves (made_of now turn opens)) in
-            let past = past_step now turn.tid (past_by first moves) (past_kept old.state now (past_by first moves) kept goes.past) way.able (omega (arith, goes.few, room)) in
+            let past = past_step now turn.tid (past_by first moves) (past_kept old.state now (past_by first moves) kept goes.past) way.able (omega (arith, goes.few_steps, room)) in
             let count = length-append moves (made_of now turn opens ∷ []) in
             record {
               move = made_of now turn opens;
@@ -247,7 +247,7 @@ module _ {W : Type 0} (Stands : W → List Event → Type 0) (fits : List Event 
                 stands = subst (Stands watched) (cut-fits fits next fit ∙ there) seen.0;
                 fitting = ap fits (sym there) ∙ fit;
                 past = subst (λ p. IsPastOf p new.state) there (subst (IsPastOf next) (sym is.state) past);
-                few = subst (λ p. steps p ≤ length (moves ++ made_of now turn opens ∷ [])) there (omega (arith, step_adds now turn.tid (past_by first moves), goes.few, count));
+                few_steps = subst (λ p. steps p ≤ length (moves ++ made_of now turn opens ∷ [])) there (omega (arith, step_adds now turn.tid (past_by first moves), goes.few_steps, count));
                 turns = turns-now;
                 made = omega (arith, made_one, goes.made, count);
                 way = ways;

@@ -202,7 +202,7 @@ module _ {W : Type 0} (Stands : W → List Event → Type 0) (fits : List Event 
       stands = refl;
       fitting = begun.going.fitting;
       past = begun.going.past;
-      few = begun.going.few;
+      few_steps = begun.going.few_steps;
       turns = begun.going.turns;
       made = begun.going.made;
       way = begun.going.way;
@@ -238,7 +238,7 @@ module _ {W : Type 0} (Stands : W → List Event → Type 0) (fits : List Event 
             stands = subst (Stands watched) there.going.stands seen.0;
             fitting = there.going.fitting;
             past = there.going.past;
-            few = there.going.few;
+            few_steps = there.going.few_steps;
             turns = there.going.turns;
             made = there.going.made;
             way = there.going.way;

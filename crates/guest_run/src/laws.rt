@@ -22,7 +22,7 @@ pub fn runs_stay_within()
     ensures observed_run { ObservesPart }
     ensures deep { EndsDeepExactly }
     ensures steps { CountsSteps }
-    ensures few { StepsWithin }
+    ensures few_steps { StepsWithin }
 {}
 
 /// The trace of a run of the guest from its start, cut before each step, has short parts alone. Of at most `RUN_STEPS` moves,

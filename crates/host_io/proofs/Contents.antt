@@ -8,7 +8,7 @@ use Rattle.std.specs.BTreeMap.{BTreeMap, Updates, get_by_text}
 use Rattle.std.specs.declared.alloc.Global.{Global}
 use Rattle.std.proofs.lemmas.Map.Text.{btree_map_updates_text}
 use Rattle.std.proofs.lemmas.Slice.Eq.{bytes_eq-Decides}
-use Rattle.host_io.specs.Files.{Contents, FilesState, FailsToPut, with_file}
+use Rattle.host_io.specs.Files.{Contents, FilesState, FailsToStore, with_file}
 use Rattle.host_io.specs.After.{with_failure}
 
 -- the contents that a map keeps
@@ -34,7 +34,7 @@ same_at files path q false e = refl
 pub update-same : (files : Contents) (path : List ℕ) → files ≡ update bytes_eq files path (files path)
 update-same files path = λ i q. same_at files path q (bytes_eq path q) refl i
 
-failure_noted : (files : Contents) (old : FilesState) (path : List ℕ) → old.contents ≡ Some files → FailsToPut path old (with_failure path old)
+failure_noted : (files : Contents) (old : FilesState) (path : List ℕ) → old.contents ≡ Some files → FailsToStore path old (with_failure path old)
 failure_noted files old path told = record {
   failed = record { faults = omega arith; failed_paths = refl };
   left = files path;
@@ -42,7 +42,7 @@ failure_noted files old path told = record {
 }
 
 -- a store that only noted its failure left what was there
-pub fails_to_put : (files : Contents) (old new : FilesState) (path : List ℕ) → old.contents ≡ Some files → new ≡ with_failure path old → FailsToPut path old new
-fails_to_put files old new path told noted =
-    let P : FilesState → Type 0 = λ s. FailsToPut path old s in
+pub fails_to_store : (files : Contents) (old new : FilesState) (path : List ℕ) → old.contents ≡ Some files → new ≡ with_failure path old → FailsToStore path old new
+fails_to_store files old new path told noted =
+    let P : FilesState → Type 0 = λ s. FailsToStore path old s in
     subst P (sym noted) (failure_noted files old path told)

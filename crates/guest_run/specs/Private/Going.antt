@@ -62,7 +62,7 @@ pub record IsGoing {W : Type 0} (Stands : W → List Event → Type 0) (fits : L
   pub stands : Stands observer (past_by first moves)
   pub fitting : fits (past_by first moves) ≡ true
   pub past : IsPastOf (past_by first moves) r.state
-  pub few : steps (past_by first moves) ≤ length moves
+  pub few_steps : steps (past_by first moves) ≤ length moves
   pub turns : (rest : List Move) → recorded r.recorder rest ≡ recording (moves ++ rest)
   pub made : r.recorder.made ≤ length moves
   pub way : 0 < r.turn.left → IsUnderWay r.state r.turn

@@ -8,7 +8,8 @@ use Rattle.stamps.specs.Widths.{greatest}
 use Rattle.trace_model.specs.Depth.{is_within}
 use Rattle.aprof_top.specs.Run.{observed_from}
 use Rattle.profile_report.specs.Reported.{Reported}
-use Rattle.aprof_top.specs.Summary.{FitsTotals, summary_text}
+use Rattle.aprof_top.specs.Summary.{summary_text}
+use Rattle.aprof_top.specs.Private.Totals.{FitsTotals}
 use Rattle.aprof_top.specs.Report.{report_of}
 use Rattle.aprof_top.proofs.Runs.{light_observed}
 use Rattle.aprof_top.proofs.Totals.{FitsTotals-past}

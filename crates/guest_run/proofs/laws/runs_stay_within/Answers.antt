@@ -24,5 +24,5 @@ returns-clause-deep c = ends_deep
 pub returns-clause-steps : goal.returns-clause-steps
 returns-clause-steps c = counts_steps
 
-pub returns-clause-few : goal.returns-clause-few
-returns-clause-few c = steps_within
+pub returns-clause-few_steps : goal.returns-clause-few_steps
+returns-clause-few_steps c = steps_within
