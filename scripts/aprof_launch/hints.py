@@ -1,4 +1,4 @@
-"""What to do next behind each status of the program but 0."""
+"""What to do next behind each status of the program, and behind a guest's own exit code."""
 from __future__ import annotations
 
 import os
@@ -32,7 +32,7 @@ class Hints:
 
     def lines(self, status: int) -> list[str]:
         of_status: dict[int, Callable[[], list[str]]] = {
-            1: self.bad_words, 2: self.unread, 3: self.bad_image, 4: self.unwritten, 5: self.fault, 6: self.budget,
+            0: self.gave_up, 1: self.bad_words, 2: self.unread, 3: self.bad_image, 4: self.unwritten, 5: self.fault, 6: self.budget,
             7: self.deadlock, 8: self.too_deep, 9: self.schedule, 10: self.memory, 11: self.too_large, 13: self.bad_trace,
         }  # fmt: skip
         if status > 128:
@@ -53,6 +53,18 @@ class Hints:
 
     def image(self) -> str:
         return self.read.positionals[0]
+
+    def gave_up(self) -> list[str]:
+        """The guest ended as it wanted to, with an exit code that is not 0."""
+        try:
+            with open(self.output, "rb") as file:
+                found = re.fullmatch(rb"end exit ([1-9][0-9]*)\n", file.readlines(200)[1])
+        except (OSError, IndexError):
+            return []
+        if not found:
+            return []
+        opens = "; if it could not open a file: it can open those that stand behind it on the command line, in the same spelling"
+        return [f"{self.image()} ended with exit code {found[1].decode()}{opens}"]
 
     def bad_words(self) -> list[str]:
         said = [self.read.complaint] if self.read.complaint else []
@@ -169,7 +181,8 @@ class Hints:
         number = self.asked_again("run", "--budget", "1", "--schedule", path, "-o", "/dev/null", "--", self.image())
         if number is None:
             where = f"the thread of that line of {path} can't run at that point"
-            return [f"{where}: the schedule was edited, or is of another run ({OTHER_RUNS}); record it anew", SO_FAR]
+            why = f"it waits, has ended or has not begun; the schedule was edited, or is of another run ({OTHER_RUNS})"
+            return [f"{where}: {why}; `--record` beside `--schedule` stores the turns that are taken", SO_FAR]
         try:
             with open(path, "rb") as file:
                 line = file.read().split(b"\n")[number - 1][:60].decode(errors="replace")

@@ -4,7 +4,12 @@ from __future__ import annotations
 import struct
 from pathlib import Path
 
+from aprof_copy.called import launcher
+
 HEAD = b"\x7fELF"
+REPORTS, TRACE = (b"aprof 1\n", b"aprof 2\n", b"aprof cache 1\n"), b"aprof trace 1\n"
+"""How what aprof stores begins."""
+
 NUMBERS = (1, 2, 3, 4, 5, 7, 8, 9, 10, 12)
 """What the program says of such files: `image K`."""
 
@@ -25,6 +30,10 @@ def why_bad(path: str) -> str:
         return "it is empty"
     if is_cut(data):
         return "it is cut off: copy or link it again"
+    if data.startswith(REPORTS):
+        return f"it is a report, not an executable: `{launcher()} show` shows it"
+    if data.startswith(TRACE):
+        return f"it is a trace, not an executable: `{launcher()} replay` makes a report of it"
     if is_text(data):
         return "it is a text, not an executable: compile it first (examples/musl/cc)"
     return foreign(data) or unsupported(data)

@@ -41,6 +41,12 @@ class Runs(Launched):
         done = subprocess.run([str(self.folder / "aprof"), "demo", "3"], cwd="/", capture_output=True, text=True)
         self.assertEqual((done.returncode, done.stdout), (0, "words: demo 3\n"))
 
+    def test_exit_code_of_the_guest(self) -> None:
+        """Where it is not 0 the guest may have missed a file; the status stays 0."""
+        for code, words, is_told in ((3, "run", True), (0, "run", False), (3, "contexts", True), (3, "trace", False)):
+            done = self.run_words(f"{words} -o r bubble", FAKE_STORED=f"aprof 2\\nend exit {code}\\nsteps 1\\nopen 0\\ndone 0\\n")
+            self.assertEqual((done.returncode, "bubble ended with exit code 3; if it could not open a file" in done.stderr), (0, is_told))
+
     def test_signals(self) -> None:
         """A signal to the launcher ends the program too; the launcher ends by the same signal."""
         for number in (signal.SIGINT, signal.SIGTERM, signal.SIGHUP):

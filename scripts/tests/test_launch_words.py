@@ -143,7 +143,7 @@ class Words(Launched):
             done = self.run_words("run --schedule turns -o r bubble", 9, FAKE_TEXT="schedule 1")
             self.assertIn(f"aprof: line 1 of turns is {line!r}, and {why}\n", done.stderr)
         done = self.run_words("run --schedule turns -o r bubble", 9, FAKE_TEXT="schedule")
-        self.assertIn("the schedule was edited, or is of another run", done.stderr)
+        self.assertIn("it waits, has ended or has not begun; the schedule was edited, or is of another run", done.stderr)
         done = self.run_words("replay -o r text", 13, FAKE_TEXT="trace 1")
         self.assertIn("aprof: text is not a trace as `aprof trace` stores it: its first line is another; store it again\n", done.stderr)
 
@@ -151,7 +151,9 @@ class Words(Launched):
         """Images and traces that are empty or cut off, and a text."""
         bubble = (self.folder / "bubble").read_bytes()
         text = (b"int x;\n", "it is a text, not an executable: compile it first (examples/musl/cc)\n")
-        images = ((b"", "it is empty"), (bubble[:-1], CUT), (bubble[:9], CUT), text)
+        report = (b"aprof 2\nend exit 0\n", "it is a report, not an executable: `./aprof show` shows it\n")
+        trace = (b"aprof trace 1\n", "it is a trace, not an executable: `./aprof replay` makes a report of it\n")
+        images = ((b"", "it is empty"), (bubble[:-1], CUT), (bubble[:9], CUT), text, report, trace)
         for data, why in images:
             (self.folder / "image").write_bytes(data)
             self.assertIn(f"aprof: image: {why}", self.run_words("run -o r image", 3, FAKE_TEXT="image 1").stderr)
