@@ -30,15 +30,15 @@ def open_lines(profile: Profile, room: int) -> list[str]:
         return []
     if profile.roots is None:
         return [f"{plural(profile.still_open, 'call')} had not returned; `aprof contexts` stores which"]
-    ends = open_ends(profile.roots, costs_of(profile.roots))
+    costs = costs_of(profile.roots)
+    ends = open_ends(profile.roots, costs)
     chains = list(dict.fromkeys(chain_text(context) for context in ends))
     lines = [line for chain in chains[:8] for line in wrapped(f"open at the end: {chain}", room)]
     if len(chains) > 8:
         lines.append(f"and {plural(len(chains) - 8, 'more chain')}")
     if any(not link.routine.name and not link.routine.shown for context in ends for link in chain_of(context)):
         lines.append("--image IMAGE names the routines that never returned")
-    sure = {link for context in ends for link in chain_of(context)}
-    more = profile.still_open - len(sure)
+    more = profile.still_open - sum(cost.opens for cost in costs.values())
     if more > 0:
         lines += wrapped(f"and {unplaced_text(more)}, so these stacks may go deeper", room)
     return lines
