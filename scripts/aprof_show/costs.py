@@ -69,6 +69,11 @@ def cost_in_report(context: Context, costs: Mapping[Context, Cost]) -> Cost:
     return Cost(max(context.cost, sum_below), max(context.cost - sum_below, 0), int(is_open), int(is_open and not open_below))
 
 
+def rest_of(steps: int, costs: Mapping[Context, Cost]) -> int:
+    """Of all instructions those that no context has for its own: the calls that had not returned spent them."""
+    return steps - sum(cost.own for cost in costs.values())
+
+
 @dataclass
 class Way:
     """The contexts from a first one down to one of those under it, and how deep in it each routine's calls are, rising."""
