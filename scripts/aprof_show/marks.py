@@ -9,7 +9,7 @@ from aprof_show.terminal import factor_text
 STEEP, MANY, RISING, WEAK = "!", "*", "^", "~"
 MEANINGS = {
     STEEP: "superlinear: faster than n log n, at least at the largest sizes",
-    MANY: "harmless itself, but called so often that what calls it is superlinear",
+    MANY: "harmless itself, but its many calls together make what calls it superlinear",
     RISING: "rises from size to size: steeper than this at larger ones, so watch it",
     WEAK: "few sizes, or sizes within a factor of 4: the growth is uncertain",
 }

@@ -3,7 +3,8 @@
 It is told only where the points show it. That the calls of the cause cost too much by their number has to follow: each of them
 is at most n log n in its own input (or all cost about the same), none reads more than the routine itself at its most, and
 together they grow faster than the routine's input. For the last, suppose that they grew with it, beside a fixed cost: then there
-would be small sizes at which they cost more than the routine does with all that it calls.
+would be small sizes at which they cost more than the routine does with all that it calls. That their number alone does so is told
+where the same holds even if each of them cost the least of all.
 """
 from __future__ import annotations
 
@@ -28,6 +29,7 @@ class Kind(Enum):
     """What grows where a routine's input does."""
 
     NUMBER = "so it is the number of calls that grows"
+    NUMBER_AND_SIZE = "so it is their number, and perhaps what each of them reads, that grows"
     NUMBER_OR_SIZE = "so it is the number of calls, or what each of them reads, that grows"
     SIZE = "so it is what each of them reads that grows"
     EACH = "so look there first"
@@ -52,7 +54,7 @@ class Reason:
 
     @property
     def is_of_number(self) -> bool:
-        return self.kind in (Kind.NUMBER, Kind.NUMBER_OR_SIZE)
+        return self.kind in (Kind.NUMBER, Kind.NUMBER_AND_SIZE, Kind.NUMBER_OR_SIZE)
 
 
 def reason_of(routine: Routine, growth: Growth | None, cause: Cause, nested: bool) -> Reason | None:
@@ -73,7 +75,10 @@ def reason_of(routine: Routine, growth: Growth | None, cause: Cause, nested: boo
     is_within = cause.points[-1].size <= routine.points[-1].size
     if cause.calls <= routine.calls:
         return None if is_within else Reason(each.guess, Kind.SIZE)
-    return Reason(each.guess, Kind.NUMBER if is_within else Kind.NUMBER_OR_SIZE)
+    least = min(point.least for point in cause.points)
+    if grows_faster(least * cause.calls, routine.points):
+        return Reason(each.guess, Kind.NUMBER)
+    return Reason(each.guess, Kind.NUMBER_AND_SIZE if is_within else Kind.NUMBER_OR_SIZE)
 
 
 def grows_faster(total: int, points: Sequence[Point]) -> bool:

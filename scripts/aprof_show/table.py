@@ -163,7 +163,7 @@ def folded_lines(rows: Sequence[Row], room: int) -> list[str]:
 
 
 def sure_of(rows: Sequence[Row]) -> list[Row]:
-    """Those whose growth is not uncertain, and those that are called too often whatever their growth."""
+    """Those whose growth is not uncertain, and those that are marked for their many calls, whatever their growth."""
     return [row for row in rows if row.many or not row.uncertain]
 
 
@@ -181,7 +181,7 @@ def signs_of(rows: Sequence[Row]) -> list[str]:
 
 
 def marked_of(rows: Sequence[Row]) -> list[Row]:
-    """Those with a sign before their growth. What is called too often comes first, as no other line has it."""
+    """Those with a sign before their growth. What is marked for its many calls comes first, as no other line has it."""
     return sorted(ordered([row for row in rows if row.superlinear or row.many], None), key=lambda row: not row.many)
 
 

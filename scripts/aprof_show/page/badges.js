@@ -8,7 +8,7 @@ const BADGES = [
   { has: (r) => r.steep && r.weak, word: "superlinear, uncertain", about: "superlinear, but uncertain: few sizes, or sizes within a factor of 4",
     put: (cell) => cell.classList.add("steep", "doubt") },
   { has: (r) => !r.steep && r.weak, word: "uncertain", about: "uncertain: few sizes, or sizes within a factor of 4", put: lookOf("doubt") },
-  { has: (r) => r.many, word: "called too often", about: "harmless itself, but called so often that what calls it is superlinear",
+  { has: (r) => r.many, word: "many calls", about: "harmless itself, but its many calls together make what calls it superlinear",
     put: (cell, number) => { cell.classList.add("many"); number.prepend("∗"); } },
   { has: (r) => r.rising !== null, word: "rising", about: "rises from size to size: steeper than this at larger ones, so watch it",
     put: (cell, number) => number.append("↑") },
