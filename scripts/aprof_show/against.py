@@ -6,7 +6,7 @@ from dataclasses import dataclass, replace
 
 from aprof_show.growth import Growth, growth_of
 from aprof_show.joining import add_points
-from aprof_show.marks import growth_text, legend
+from aprof_show.marks import legend, marked
 from aprof_show.model import Routine
 from aprof_show.rows import Row, ordered
 from aprof_show.table import GREATEST_COST, NAMED, WITH_CALLEES, Choice, greatest_cost, share_text
@@ -117,16 +117,17 @@ def against_text(
 
 
 def texts(row: Row | None) -> tuple[str, str, str]:
-    """Growth, share and greatest cost; `.` where the routine isn't there."""
+    """Growth with its signs, share and greatest cost; `.` where the routine isn't there."""
     if row is None:
         return ". ", ".", "."
-    return growth_text(row.growth), share_text(row), short(greatest_cost(row.routine))
+    return marked(row.growth, row.many), share_text(row), short(greatest_cost(row.routine))
 
 
 def texts_now(pair: Pair) -> tuple[str, str, str]:
     growth, share, cost = texts(pair.new)
     between = pair.between()
-    return growth_text(between) if between else growth, share, cost
+    many = pair.new is not None and pair.new.many
+    return marked(between, many) if between else growth, share, cost
 
 
 def differs(pair: Pair) -> bool:

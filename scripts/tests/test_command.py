@@ -155,7 +155,8 @@ class Against(unittest.TestCase):
             text = show("--against", *map(str, paths)).splitlines()
             self.assertEqual(text[0], "6344 instructions before, 11676 after")
             self.assertEqual(text[2].split(), "GROWTH NOW CALLEES NOW COST NOW ROUTINE".split())
-            self.assertEqual(text[3].split(), "x2.0 x4.0 2.0% 46.7% 64 4096 look_up".split())
+            self.assertEqual(text[3].split(), "x2.0 !x4.0 2.0% 46.7% 64 4096 look_up".split())
+            self.assertIn("! superlinear: faster than n log n, at least at the largest sizes", text)
             folder_of = [path.with_name(f"{path.name}-runs") for path in paths]
             for path, runs in zip(paths, folder_of):
                 runs.mkdir()

@@ -182,7 +182,7 @@ class Programs(unittest.TestCase):
         with tempfile.TemporaryDirectory() as folder:
             small, large, same = (self.run_of(folder, name, names, size) for name, size in (("a", 8), ("b", 32), ("c", 8)))
             text = show("--against", small, large).splitlines()
-            self.assertEqual(next(line for line in text if "parse" in line).split()[:2], ["-", "x4.0~"])
+            self.assertEqual(next(line for line in text if "parse" in line).split()[:2], ["-", "!x4.0~"])
             self.assertIn("from the one call before to the one call now", text[-1])
             near = self.run_of(folder, "d", names, 12)
             for other in (same, near):
