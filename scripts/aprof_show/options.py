@@ -92,7 +92,7 @@ def parser() -> argparse.ArgumentParser:
     add_choices(result)
     add("--image", metavar="IMAGE", help="the executable: for names, files and lines")
     add("--against", metavar="OLD", help="compare with this earlier report, or a folder of them")
-    add("--fail-above", metavar="FACTOR", type=factor, help="status 1 if a routine's growth exceeds FACTOR and is not marked ~")
+    add("--fail-above", metavar="FACTOR", type=factor, help="status 1 if a growth, or what it rises to (^), exceeds FACTOR and is not marked ~")
     add("--plot", action="store_true", help="a chart of the routine")
     add("--version", action="store_true", help="the version of aprof")
     add_kinds(result)
