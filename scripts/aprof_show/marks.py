@@ -3,7 +3,7 @@ from __future__ import annotations
 
 from collections.abc import Iterable
 
-from aprof_show.growth import Growth
+from aprof_show.growth import LEAST_LARGEST, Growth
 from aprof_show.terminal import factor_text
 
 STEEP, MANY, RISING, WEAK = "!", "*", "^", "~"
@@ -11,7 +11,7 @@ MEANINGS = {
     STEEP: "superlinear: faster than n log n, at least at the largest sizes",
     MANY: "harmless itself, but its many calls together make what calls it superlinear",
     RISING: "rises from size to size: steeper than this at larger ones, so watch it",
-    WEAK: "few sizes, or sizes within a factor of 4: the growth is uncertain",
+    WEAK: f"few sizes, sizes below {LEAST_LARGEST}, or within a factor of 4: the growth is uncertain",
 }
 
 

@@ -150,7 +150,7 @@ class Trees(unittest.TestCase):
             " 100.0%  2.8%     -      1  main",
             "  97.2% 83.3%  x1.7~     3    parse (recursive)",
             "  13.9% 13.9%     -      1      leaf",
-            "~ few sizes, or sizes within a factor of 4: the growth is uncertain",
+            "~ few sizes, sizes below 16, or within a factor of 4: the growth is uncertain",
         ])
 
     def test_recursion_by_another_is_not_followed_again(self) -> None:
