@@ -4,7 +4,8 @@ It is told only where the points show it. That the calls of the cause cost too m
 is at most n log n in its own input (or all cost about the same), none reads more than the routine itself at its most, and
 together they grow faster than the routine's input. For the last, suppose that they grew with it, beside a fixed cost: then there
 would be small sizes at which they cost more than the routine does with all that it calls. That their number alone does so is told
-where the same holds even if each of them cost the least of all.
+where the same holds even if each of them cost the least of all. Where the routine is called once in each of several reports,
+their whole cost by its size tells directly.
 """
 from __future__ import annotations
 
@@ -13,7 +14,7 @@ from dataclasses import dataclass
 from enum import Enum
 
 from aprof_show.bends import spread_between
-from aprof_show.causes import Cause
+from aprof_show.causes import Cause, totals_by_size
 from aprof_show.growth import Growth, growth_of
 from aprof_show.model import Point, Routine
 from aprof_show.terminal import plural
@@ -63,9 +64,9 @@ def reason_of(routine: Routine, growth: Growth | None, cause: Cause, nested: boo
     if growth is None or growth.weak or not growth.superlinear:
         return None
     each = growth_of(cause.points)
-    if each and not each.weak and each.superlinear:
+    if each and is_superlinear(cause.points):
         return Reason(each.guess, Kind.EACH)
-    if nested or not grows_faster(cause.total, routine.points):
+    if nested or not (grows_faster(cause.total, routine.points) or is_superlinear(totals_by_size(routine, cause))):
         return None
     if not cause.points or spread_between(cause.points) <= ALIKE:
         most = max((point.most for point in cause.points), default=0)
@@ -87,3 +88,8 @@ def grows_faster(total: int, points: Sequence[Point]) -> bool:
     calls, words = sum(point.calls for point in points), sum(point.size * point.calls for point in points)
     small = [point for point in points if 0 < point.size * calls <= words]
     return any(total / words * point.size > CLEARLY * point.mean for point in small)
+
+
+def is_superlinear(points: Sequence[Point]) -> bool:
+    growth = growth_of(points)
+    return growth is not None and not growth.weak and growth.superlinear

@@ -22,6 +22,16 @@ def scans(n: int) -> Call:
     return Call("parse", n, n, [Call("look_up", 2 * n, 4 * n) for _ in range(n)])
 
 
+def to_the_end(n: int) -> Call:
+    """Each call walks one of eight lists to its end, and its fixed cost and the routine's own work hide the square."""
+    return Call("parse", n, 150 * n, [Call("look_up", k // 8 + 8, 150 + k // 2) for k in range(n)])
+
+
+def own_square(n: int) -> Call:
+    """What grows with the square is its own work, beside many calls."""
+    return Call("parse", n, n * n // 5, [Call("look_up", k % 64 + 8, 3 * (k % 64) + 150) for k in range(n)])
+
+
 def short_scans(n: int) -> Call:
     """Their number grows with the square, and each reads a few words."""
     return Call("parse", n, n, [Call("look_up", k % 16 + 4, 3 * (k % 16 + 4)) for k in range(n * n)])
@@ -103,6 +113,17 @@ class Reasons(unittest.TestCase):
         text = summary(profile, rows_of(profile), Choice(), 80)
         self.assertIn("marked in the C library: strlen *x2.0 (--library)", text)
         self.assertTrue(any(line.startswith("* harmless itself") for line in text))
+
+    def test_one_call_in_each_report(self) -> None:
+        """Then their whole cost is known by the size of that call, and tells where one report of all calls doesn't."""
+        trees = [(to_the_end, NUMBER_AND_SIZE), (own_square, "called 1984 times"), (linear, "called 1984 times")]
+        for tree, wanted in trees:
+            calls = [tree(n) for n in (64, 128, 256, 512, 1024)]
+            apart = join([report_of(Run([Call("main", 9, 1, [call])], ADDRESSES).text(contexts=True)) for call in calls])
+            whole = join([report_of(Run([Call("main", 9, 1, calls)], ADDRESSES).text(contexts=True))])
+            with self.subTest(tree.__name__):
+                self.assertTrue(sentence(row_of(apart, "parse")).endswith(wanted))
+                self.assertEqual(sentence(row_of(whole, "parse")), "called 1984 times")
 
     def test_several_reports(self) -> None:
         """A report for each input says the same as one of all."""
