@@ -98,8 +98,8 @@ SMALL_SPREAD, LARGE_SPREAD, CLEARLY = 1.5, 2.0, 0.15
 
 
 def growth_of(points: Sequence[Point]) -> Growth | None:
-    """The growth of the greatest cost, or of the mean where the greatest misleads; None where there is but one size other
-    than 0."""
+    """The growth of the greatest cost, or of the mean where the greatest misleads; None where there is at most one size
+    other than 0."""
     spread = spread_of(points)
     spots = [(float(point.size), float(max(point.most, 1))) for point in points if point.size > 0]
     growth = growth_by(spots, spread < SMALL_SPREAD)

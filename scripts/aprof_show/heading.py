@@ -19,7 +19,14 @@ def head(profile: Profile) -> list[str]:
     faults = [fault_line(report) for report in profile.reports if report.end.startswith("fault")]
     reports = f"{len(profile.reports)} reports, " if len(profile.reports) > 1 else ""
     still_open = f"{profile.still_open} still open"
-    return [f"{reports}{profile.steps} instructions, {', '.join(texts)}, {still_open}", *faults]
+    rare = [f"end {end}: {paths_text(profile, end)}" for end, _ in ends.most_common()[1:]]
+    return [f"{reports}{profile.steps} instructions, {', '.join(texts)}, {still_open}", *rare, *faults]
+
+
+def paths_text(profile: Profile, end: str) -> str:
+    """The reports that ended so, or the first ones of many."""
+    paths = [report.path for report in profile.reports if report.end == end]
+    return ", ".join(paths[:3]) + (f" and {len(paths) - 3} more" if len(paths) > 3 else "")
 
 
 def fault_line(report: Report) -> str:

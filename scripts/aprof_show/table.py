@@ -40,7 +40,12 @@ class Choice:
             return True
         least = 0.01 if self.least is None else self.least
         surely = row.superlinear and not row.uncertain
-        return row.share >= least or self.least is None and (surely or row.superlinear and row.projected_share >= least)
+        possibly = row.superlinear and row.projected_share >= least
+        return row.share >= least or self.least is None and (surely or possibly or self.asks_for(row))
+
+    def asks_for(self, row: Row) -> bool:
+        """Whether most of its input is by those whose part is the order."""
+        return self.by in WRITERS and written_part(row.routine, self.by, 0.0) > 0.5
 
 
 def summary(profile: Profile, rows: Sequence[Row], choice: Choice, room: int) -> list[str]:

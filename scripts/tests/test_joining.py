@@ -5,7 +5,7 @@ import random
 import unittest
 
 from aprof_show.costs import contexts_of, costs_by_routine, costs_of
-from aprof_show.heading import open_lines
+from aprof_show.heading import head, open_lines
 from aprof_show.joining import join
 from aprof_show.model import Context, Point, Profile, Routine
 from tests.samples import ADDRESSES, Call, Run, random_call, report_of, stored
@@ -111,6 +111,14 @@ class CutOff(unittest.TestCase):
         self.assertEqual([routine.label for routine in self.joined(self.CUT, self.WHOLE).routines], ["main", "parse", "leaf"])
         other = Run([Call("main", calls=[Call("parse"), Call("leaf")])], MOVED)
         self.assertEqual(len(self.joined(self.CUT, other).routines), 5)
+
+    def test_the_ends_tell_their_reports(self) -> None:
+        self.assertEqual(head(self.joined(self.WHOLE, self.CUT, self.WHOLE))[0].split(", ")[2:4], ["end exit 0 (2)", "end budget (1)"])
+        lines = head(self.joined(self.WHOLE, self.CUT, self.WHOLE))[1:]
+        self.assertRegex("".join(lines), r"^end budget: [^ ]*r1$")
+        many = head(self.joined(*[self.CUT] * 5, *[self.WHOLE] * 6))[1:]
+        self.assertRegex("".join(many), r"^end budget: [^ ]*r0, [^ ]*r1, [^ ]*r2 and 2 more$")
+        self.assertEqual(head(self.joined(self.CUT, self.CUT))[1:], [])
 
     def test_open_calls_are_counted_by_report(self) -> None:
         """The calls of both runs stand in the chain; in each run one more is open, of a routine that had returned there."""
