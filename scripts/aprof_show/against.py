@@ -1,17 +1,17 @@
-"""Two profiles of one program, before and after a change, and growths above a limit."""
+"""Two profiles of one program, before and after a change."""
 from __future__ import annotations
 
 from collections.abc import Collection, Sequence
-from dataclasses import dataclass, replace
+from dataclasses import dataclass
 
 from aprof_show.growth import Growth, growth_of
 from aprof_show.joining import add_points
-from aprof_show.marks import growth_text, legend
+from aprof_show.marks import legend, marked
 from aprof_show.model import Routine
-from aprof_show.rows import Row, ordered
+from aprof_show.rows import Row
 from aprof_show.table import GREATEST_COST, NAMED, WITH_CALLEES, Choice, greatest_cost, share_text
 from aprof_show.table import marked_lines, marked_of, signs_of, sure_of
-from aprof_show.terminal import Column, factor_text, plural, short, table
+from aprof_show.terminal import Column, plural, short, table
 
 
 @dataclass(frozen=True)
@@ -117,16 +117,17 @@ def against_text(
 
 
 def texts(row: Row | None) -> tuple[str, str, str]:
-    """Growth, share and greatest cost; `.` where the routine isn't there."""
+    """Growth with its signs, share and greatest cost; `.` where the routine isn't there."""
     if row is None:
         return ". ", ".", "."
-    return growth_text(row.growth), share_text(row), short(greatest_cost(row.routine))
+    return marked(row.growth, row.many), share_text(row), short(greatest_cost(row.routine))
 
 
 def texts_now(pair: Pair) -> tuple[str, str, str]:
     growth, share, cost = texts(pair.new)
     between = pair.between()
-    return growth_text(between) if between else growth, share, cost
+    many = pair.new is not None and pair.new.many
+    return marked(between, many) if between else growth, share, cost
 
 
 def differs(pair: Pair) -> bool:
@@ -140,38 +141,3 @@ def columns_of(pairs: Sequence[Pair]) -> list[Column]:
         columns.append(Column(heading, [row[place] for row in before]))
         columns.append(Column("NOW", [row[place] for row in after]))
     return columns + [Column(" ROUTINE", [f" {pair.either.routine.label}" for pair in pairs], left=True)]
-
-
-def above(rows: Sequence[Row], limit: float, named: Collection[Routine], choice: Choice) -> list[Row]:
-    """The rows whose growth is above a limit, in the order of the table. With names only those routines are looked at; without,
-    those that the table would tell of, and none whose growth is uncertain."""
-    found = [row for row in ordered(rows, choice.by) if row.growth and row.growth.factor > limit]
-    if named:
-        return [row for row in found if row.routine in named]
-    least = choice.least or 0.0
-    return [row for row in found if not row.uncertain and row.share >= least and (choice.library or not row.library)]
-
-
-def above_text(rows: Sequence[Row], limit: float) -> list[str]:
-    return [
-        f"{row.routine.label} grows {above_limit(row.growth, limit)} ({share_text(row)} of all instructions with its callees)"
-        for row in rows
-        if row.growth
-    ]
-
-
-def not_judged(rows: Sequence[Row], limit: float, named: Collection[Routine], choice: Choice) -> list[str]:
-    """What is said of routines of the C library whose growth is above the limit, where they don't count."""
-    if named or choice.library:
-        return []
-    left = [row for row in above(rows, limit, named, replace(choice, library=True)) if row.library]
-    text = f"{plural(len(left), 'C library routine')} above {factor_text(limit)} not counted: --library"
-    return [text] if left else []
-
-
-def above_limit(growth: Growth, limit: float) -> str:
-    """With as many digits as tell both apart."""
-    digits = 1
-    while digits < 6 and factor_text(growth.factor, digits) == factor_text(limit, digits):
-        digits += 1
-    return f"{factor_text(growth.factor, digits)}{'~' * (growth.weak is not None)}, above {factor_text(limit, digits)}"

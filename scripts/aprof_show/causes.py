@@ -12,7 +12,7 @@ from dataclasses import dataclass, field
 
 from aprof_show.costs import Cost, Way, ways_of
 from aprof_show.growth import GrowthOf
-from aprof_show.joining import points_of
+from aprof_show.joining import add_points, points_of
 from aprof_show.model import Context, Measured, Point, Routine
 
 LEAST = 0.25
@@ -110,3 +110,32 @@ def is_growing(routine: Routine, growth_of: GrowthOf) -> bool:
     """Whether there are sizes enough to tell of its growth."""
     growth = growth_of(routine)
     return growth is not None and growth.weak is None
+
+
+def totals_by_size(routine: Routine, cause: Cause) -> list[Point]:
+    """What all calls of the cause below a call of the routine cost together, by the size of that one: where it is the only one of
+    its context in a report."""
+    totals: Counter[Context] = Counter()
+    for context in cause.contexts:
+        levels = levels_below(context, routine)
+        for part in (context.joined or [context]) if levels else []:
+            totals[caller_of(part, levels)] += part.cost
+    alone = [(context, total) for context, total in totals.items() if context.calls == 1 and total <= context.cost]
+    return add_points([], (Point(context.points[0].size, 1, total, total, total, None) for context, total in alone))
+
+
+def levels_below(context: Context, routine: Routine) -> int:
+    """How many calls lead to it from the routine; 0 where a call of its own routine is between."""
+    levels, caller = 1, context.caller
+    while caller and caller.routine is not routine:
+        if caller.routine is context.routine:
+            return 0
+        levels, caller = levels + 1, caller.caller
+    return levels if caller else 0
+
+
+def caller_of(context: Context, levels: int) -> Context:
+    for _ in range(levels):
+        assert context.caller
+        context = context.caller
+    return context

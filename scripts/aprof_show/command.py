@@ -7,14 +7,15 @@ import sys
 from collections.abc import Iterable, Sequence
 
 from aprof_show import called, page
-from aprof_show.against import above, above_text, against_text, not_judged
+from aprof_show.against import against_text
 from aprof_show.cache import cache_text
 from aprof_show.data import csv_text, json_text
 from aprof_show.detail import detail, notes
 from aprof_show.heading import open_lines
 from aprof_show.inputs import ROUTINE_HINT, joined, name_by_image, read_all
 from aprof_show.joining import CannotJoin, join_caches
-from aprof_show.kinship import strange_pair, strangers
+from aprof_show.kinship import strange_pair, strangers, without_contexts
+from aprof_show.limits import above, above_text, not_judged, unreturned
 from aprof_show.model import CacheReport, Context, Profile, Report, Routine
 from aprof_show.names import shorten
 from aprof_show.options import choice_of, parser
@@ -76,10 +77,10 @@ def run(options: argparse.Namespace) -> int:
         return compare(options, profile, rows, names)
     wanted = all_named(profile.routines, names)
     check(options, names, kind_of(options, names))
-    warn(strangers(profile.reports))
+    warn([*strangers(profile.reports), *without_contexts(profile.reports)])
     check_order(options.by, profile)
     if options.fail_above is not None:
-        return judge(rows, options, wanted)
+        return judge(profile, rows, options, wanted)
     return show(options, profile, rows, wanted, lines)
 
 
@@ -162,12 +163,15 @@ def compare(options: argparse.Namespace, new: Profile, new_rows: Sequence[Row], 
     old_rows = rows_of(old)
     wanted = all_named([*new.routines, *old.routines], names)
     check(options, names, kind_of(options, names))
-    warn([*strangers(old.reports), *strangers(new.reports), *strange_pair(old.reports, new.reports)])
+    for reports in (old.reports, new.reports):
+        warn([*strangers(reports), *without_contexts(reports)])
+    warn(strange_pair(old.reports, new.reports))
     print_lines(against_text(old_rows, new_rows, (old.steps, new.steps), choice_of(options), width(), wanted))
-    return judge(new_rows, options, wanted) if options.fail_above is not None else 0
+    return judge(new, new_rows, options, wanted) if options.fail_above is not None else 0
 
 
-def judge(rows: Sequence[Row], options: argparse.Namespace, wanted: set[Routine]) -> int:
+def judge(profile: Profile, rows: Sequence[Row], options: argparse.Namespace, wanted: set[Routine]) -> int:
+    warn(unreturned(profile, wanted))
     limit, choice = options.fail_above, choice_of(options)
     found = above(rows, limit, wanted, choice)
     print_lines([*above_text(found, limit), *not_judged(rows, limit, wanted, choice)])

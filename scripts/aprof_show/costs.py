@@ -1,7 +1,7 @@
 """Costs by calling context: what a context costs with what it calls, its own part, and what was open at the end."""
 from __future__ import annotations
 
-from collections.abc import Iterator, Sequence
+from collections.abc import Iterator, Mapping, Sequence
 from dataclasses import dataclass, field
 
 from aprof_show.model import Context, Routine
@@ -9,11 +9,23 @@ from aprof_show.model import Context, Routine
 
 @dataclass
 class Cost:
-    """Instructions. Where a call of the context was `open` at the end, both numbers are the least that is sure."""
+    """Instructions. Where a call of the context was open at the end, both numbers are the least that is sure. `opens` and `ends`
+    count the reports in which one surely was, and in which it surely was the innermost one."""
 
-    total: int
-    own: int
-    open: bool
+    total: int = 0
+    own: int = 0
+    opens: int = 0
+    ends: int = 0
+
+    @property
+    def open(self) -> bool:
+        return self.opens > 0
+
+    def add(self, other: Cost) -> None:
+        self.total += other.total
+        self.own += other.own
+        self.opens += other.opens
+        self.ends += other.ends
 
 
 @dataclass
@@ -37,14 +49,29 @@ def contexts_of(roots: Sequence[Context]) -> Iterator[Context]:
 
 
 def costs_of(roots: Sequence[Context]) -> dict[Context, Cost]:
-    """A context without points never returned, nor did those above it; nor did one whose callees cost more than itself."""
+    """Of contexts that several reports have, the sums over these: a call open in one says nothing of the calls in the others."""
     costs: dict[Context, Cost] = {}
+    parts: dict[Context, Cost] = {}
     for context in reversed(list(contexts_of(roots))):
-        below = [costs[callee] for callee in context.callees]
-        sum_below = sum(cost.total for cost in below)
-        is_open = not context.points or sum_below > context.cost or any(cost.open for cost in below)
-        costs[context] = Cost(max(context.cost, sum_below), max(context.cost - sum_below, 0), is_open)
+        costs[context] = Cost()
+        for part in context.joined or [context]:
+            parts[part] = cost_in_report(part, parts)
+            costs[context].add(parts[part])
     return costs
+
+
+def cost_in_report(context: Context, costs: Mapping[Context, Cost]) -> Cost:
+    """A context without points never returned, nor did those above it; nor did one whose callees cost more than itself."""
+    below = [costs[callee] for callee in context.callees]
+    sum_below = sum(cost.total for cost in below)
+    open_below = any(cost.open for cost in below)
+    is_open = not context.points or sum_below > context.cost or open_below
+    return Cost(max(context.cost, sum_below), max(context.cost - sum_below, 0), int(is_open), int(is_open and not open_below))
+
+
+def rest_of(steps: int, costs: Mapping[Context, Cost]) -> int:
+    """Of all instructions those that no context has for its own: the calls that had not returned spent them."""
+    return steps - sum(cost.own for cost in costs.values())
 
 
 @dataclass
@@ -106,12 +133,8 @@ def chain_of(context: Context) -> list[Context]:
 
 
 def open_ends(roots: Sequence[Context], costs: dict[Context, Cost]) -> list[Context]:
-    """The innermost contexts that surely were open at the end."""
-    return [
-        context
-        for context in contexts_of(roots)
-        if costs[context].open and not any(costs[callee].open for callee in context.callees)
-    ]
+    """The innermost contexts that surely were open at the end of a report."""
+    return [context for context in contexts_of(roots) if costs[context].ends]
 
 
 def chain_text(context: Context) -> str:

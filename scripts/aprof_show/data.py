@@ -1,17 +1,17 @@
 """A profile as JSON and as CSV. Keys and columns keep their names and meanings; new ones may be added.
 
-JSON: `format` is "aprof-show 1"; `reports` are the files with their `path`, `end`, `steps` (instructions) and `open`;
-`routines` have `entry` (eight hexadecimal digits), `name` (null where there is none), `label` (as `show` prints it),
-`library`, `calls`, `cost` (all calls, with what they call), `share` and `self_share` (of all instructions; null without
-contexts), `growth` and `points`. `growth` is null where there is but one size other than 0, and else has `factor` (times the
-cost where the size doubles), `exponent`, the exponents `whole`, `top`, `net` and `fit`, `rising`, the last one where they rise
-to it or null, `bent`, that of the greatest cost where the mean cost was judged or null, and `weak`, the reason why it is
-uncertain or null. `cause`, null where none is known, is the routine below with most of the cost: its `entry` and `label`, its
-`share` of this routine's cost, with what it calls, its `calls` from there, whether some are `direct`, and `why` they make the
-routine superlinear, or null. A point has `size`, `calls`, `least`, `most`, `cost`, and `own`, `thread`, `kernel` and `bare`,
-null in a report of version 1. `contexts`, null without them and where routines were named, stand behind their callers:
-`routine` and `caller` are places in `routines` and `contexts`, `caller` null for the outermost ones; `total` and `self` are
-instructions, and the least that is sure where `open` is true.
+JSON: `format` is "aprof-show 2" (in 1, `plain` was called `own`); `reports` are the files with their `path`, `end`, `steps`
+(instructions) and `open`; `routines` have `entry` (eight hexadecimal digits), `name` (null where there is none), `label` (as
+`show` prints it), `library`, `calls`, `cost` (all calls, with what they call), `share` and `self_share` (of all instructions;
+null without contexts), `growth` and `points`. `growth` is null where there is at most one size other than 0, and else has
+`factor` (times the cost where the size doubles), `exponent`, the exponents `whole`, `top`, `net` and `fit`, `rising`, the last
+one where they rise to it or null, `bent`, that of the greatest cost where the mean cost was judged or null, and `weak`, the
+reason why it is uncertain or null. `cause`, null where none is known, is the routine below with most of the cost: its `entry`
+and `label`, its `share` of this routine's cost, with what it calls, its `calls` from there, whether some are `direct`, and `why`
+they make the routine superlinear, or null. A point has `size`, `calls`, `least`, `most`, `cost`, and the words of input by who wrote them,
+`plain`, `thread`, `kernel` and `bare`, as in the report and null in one of version 1. `contexts`, null without them and where
+routines were named, stand behind their callers: `routine` and `caller` are places in `routines` and `contexts`, `caller` null
+for the outermost ones; `total` and `self` are instructions, and the least that is sure where `open` is true.
 """
 from __future__ import annotations
 
@@ -27,7 +27,7 @@ from aprof_show.model import Context, Point, Profile, Routine
 from aprof_show.reasons import Reason
 from aprof_show.rows import Row
 
-POINT_KEYS = ("size", "calls", "least", "most", "cost", "own", "thread", "kernel", "bare")
+POINT_KEYS = ("size", "calls", "least", "most", "cost", "plain", "thread", "kernel", "bare")
 
 
 def json_text(profile: Profile, rows: Sequence[Row], named: Collection[Routine] = ()) -> str:
@@ -39,7 +39,7 @@ def json_text(profile: Profile, rows: Sequence[Row], named: Collection[Routine] 
     routines = [routine_values(row) for row in rows if not named or row.routine in named]
     roots = None if named else profile.roots
     contexts = context_values(roots, [row.routine for row in rows]) if roots is not None else None
-    value = {"format": "aprof-show 1", "reports": reports, "routines": routines, "contexts": contexts}
+    value = {"format": "aprof-show 2", "reports": reports, "routines": routines, "contexts": contexts}
     return json.dumps(value, indent=1, allow_nan=False)
 
 

@@ -35,7 +35,8 @@ def detail(row: Row, room: int, place: str | None = None) -> list[str]:
         lines.append("`aprof contexts` in place of `aprof run` stores where that comes from")
     if not routine.points:
         return [*lines, "no call of it had returned at the end"]
-    told = growth_lines(row, row.growth) if row.growth else ["one size other than 0: nothing to tell of growth"]
+    sizes = "one size" if len(routine.points) == 1 else "one size other than 0"
+    told = growth_lines(row, row.growth) if row.growth else [f"{sizes}: nothing to tell of growth"]
     lines += [part for line in told for part in wrapped(line, room)]
     return lines + table(columns_of(routine.points), room)
 
@@ -112,7 +113,8 @@ def notes(rows: Iterable[Row], room: int) -> list[str]:
     routines = [row.routine for row in rows if row.routine.points]
     if not routines:
         return []
-    writers = ". PLAIN: no one else wrote those words since the thread last had them; THREAD: another; KERNEL: the kernel"
+    plain = "the thread itself had read or written those words since anyone else wrote them, or no one wrote them"
+    writers = f". PLAIN: {plain}; THREAD: another thread wrote them; KERNEL: the kernel did"
     known = any(routine.parts for routine in routines)
     return wrapped("A WORD is the greatest cost by word of the size" + writers * known, room)
 

@@ -27,13 +27,17 @@ from aprof_show.model import Point, Routine
 SUPERLINEAR = 2.3
 """From this factor on a growth counts as superlinear: n log n is below it from some thousand words on."""
 
+LEAST_LARGEST = 16
+"""Below this largest size no growth counts as superlinear: it is mostly one from case to case."""
+
 LINEAR = 0.85
 """From this exponent on a growth counts as linear."""
 
 
 @dataclass(frozen=True)
 class Growth:
-    """Exponents: `exponent` is the verdict, `whole` is the slope over all sizes. `weak` says why it isn't to be relied on.
+    """Exponents: `exponent` is the verdict, `whole` is the slope over all sizes. `weak` says why it isn't to be relied on, and
+    `largest` is the largest size.
     `rising` is the last slope where the slopes rise above the verdict; `bent` is the verdict by the greatest cost, where the
     mean was judged."""
 
@@ -43,6 +47,7 @@ class Growth:
     net: float | None
     fit: float | None
     size_ratio: float
+    largest: float
     weak: str | None
     rising: float | None = None
     bent: float | None = None
@@ -59,6 +64,11 @@ class Growth:
 
     @property
     def superlinear(self) -> bool:
+        return self.is_steep and self.largest >= LEAST_LARGEST
+
+    @property
+    def is_steep(self) -> bool:
+        """Whether it is superlinear by its factor, whatever its sizes."""
         return factor_of(self.ahead) > SUPERLINEAR
 
     @property
@@ -88,8 +98,8 @@ SMALL_SPREAD, LARGE_SPREAD, CLEARLY = 1.5, 2.0, 0.15
 
 
 def growth_of(points: Sequence[Point]) -> Growth | None:
-    """The growth of the greatest cost, or of the mean where the greatest misleads; None where there is but one size other
-    than 0."""
+    """The growth of the greatest cost, or of the mean where the greatest misleads; None where there is at most one size
+    other than 0."""
     spread = spread_of(points)
     spots = [(float(point.size), float(max(point.most, 1))) for point in points if point.size > 0]
     growth = growth_by(spots, spread < SMALL_SPREAD)
@@ -120,16 +130,19 @@ def growth_by(spots: list[Spot], smooth: bool) -> Growth | None:
     whole = greatest_by_window(used, 1)
     ratio = used[-1][0] / used[0][0]
     exponent = median(slope for slope in (top, net, fit) if slope is not None)
-    return Growth(
+    growth = Growth(
         exponent=exponent,
         whole=slope_between(whole[0], whole[-1]) if len(whole) > 1 else top,
         top=top,
         net=net,
         fit=fit,
         size_ratio=ratio,
+        largest=used[-1][0],
         weak=weakness(len(spots), ratio),
         rising=rising_slope(used, exponent) if smooth else None,
     )
+    is_small = growth.is_steep and not growth.superlinear
+    return replace(growth, weak=growth.weak or f"sizes below {LEAST_LARGEST}") if is_small else growth
 
 
 def weakness(sizes: int, ratio: float) -> str | None:

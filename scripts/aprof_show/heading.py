@@ -4,10 +4,14 @@ from __future__ import annotations
 from collections import Counter
 from textwrap import wrap
 
-from aprof_show.costs import chain_of, chain_text, costs_of, open_ends
+from aprof_show.costs import chain_of, chain_text, costs_of, open_ends, rest_of
 from aprof_show.ends import FAULTS
 from aprof_show.model import Profile, Report
-from aprof_show.terminal import plural
+from aprof_show.terminal import percent, plural
+
+MUCH = 0.05
+"""From this part of all instructions on it is said that calls that had not returned spent it."""
+
 
 def head(profile: Profile) -> list[str]:
     ends = Counter(report.end for report in profile.reports)
@@ -15,7 +19,14 @@ def head(profile: Profile) -> list[str]:
     faults = [fault_line(report) for report in profile.reports if report.end.startswith("fault")]
     reports = f"{len(profile.reports)} reports, " if len(profile.reports) > 1 else ""
     still_open = f"{profile.still_open} still open"
-    return [f"{reports}{profile.steps} instructions, {', '.join(texts)}, {still_open}", *faults]
+    rare = [f"end {end}: {paths_text(profile, end)}" for end, _ in ends.most_common()[1:]]
+    return [f"{reports}{profile.steps} instructions, {', '.join(texts)}, {still_open}", *rare, *faults]
+
+
+def paths_text(profile: Profile, end: str) -> str:
+    """The reports that ended so, or the first ones of many."""
+    paths = [report.path for report in profile.reports if report.end == end]
+    return ", ".join(paths[:3]) + (f" and {len(paths) - 3} more" if len(paths) > 3 else "")
 
 
 def fault_line(report: Report) -> str:
@@ -29,19 +40,29 @@ def open_lines(profile: Profile, room: int) -> list[str]:
     if not profile.still_open:
         return []
     if profile.roots is None:
-        return [f"{plural(profile.still_open, 'call')} had not returned; `aprof contexts` stores which"]
-    ends = open_ends(profile.roots, costs_of(profile.roots))
+        calls = f"{plural(profile.still_open, 'call')} had not returned, whose own cost is in no row"
+        return wrapped(f"{calls}; `aprof contexts` stores which", room)
+    costs = costs_of(profile.roots)
+    ends = open_ends(profile.roots, costs)
     chains = list(dict.fromkeys(chain_text(context) for context in ends))
     lines = [line for chain in chains[:8] for line in wrapped(f"open at the end: {chain}", room)]
     if len(chains) > 8:
         lines.append(f"and {plural(len(chains) - 8, 'more chain')}")
+    lines += wrapped(spent_text(rest_of(profile.steps, costs) / max(profile.steps, 1), len(ends)), room)
     if any(not link.routine.name and not link.routine.shown for context in ends for link in chain_of(context)):
         lines.append("--image IMAGE names the routines that never returned")
-    sure = {link for context in ends for link in chain_of(context)}
-    more = profile.still_open - len(sure)
+    more = profile.still_open - sum(cost.opens for cost in costs.values())
     if more > 0:
         lines += wrapped(f"and {unplaced_text(more)}, so these stacks may go deeper", room)
     return lines
+
+
+def spent_text(part: float, ends: int) -> str:
+    """Where the instructions went that no row tells of, if they are many."""
+    if part < MUCH:
+        return ""
+    where = "under this stack" if ends == 1 else "as [open_at_the_end]"
+    return f"{percent(part)} of all instructions are of calls that had not returned, and are in no row; --folded has them {where}"
 
 
 def wrapped(text: str, room: int) -> list[str]:

@@ -2,7 +2,8 @@
 
 Routines are joined by name. Where the reports are of one image, routines of one name (static functions of several files) are
 told apart by their address, and routines without a name are joined by it; else the former are told apart by their order in
-each report, and the latter are kept apart.
+each report, and the latter are kept apart. A report has no names for routines that never returned in it: where the reports are
+of one image, these are called what another report calls them.
 """
 from __future__ import annotations
 
@@ -23,7 +24,10 @@ def join(reports: Sequence[Report]) -> Profile:
         profile = Profile(list(reports), reports[0].routines, reports[0].roots)
         tell_apart(profile.routines, {})
         return profile
-    keys = keys_of(reports)
+    one_image = of_one_image(reports)
+    if one_image:
+        name_unreturned(reports)
+    keys = keys_of(reports, one_image)
     joined: dict[Key, Routine] = {}
     sources: dict[Routine, set[str]] = {}
     for report in reports:
@@ -71,6 +75,8 @@ def of_one_image(reports: Sequence[Report]) -> bool:
     for report in reports:
         mine: dict[str, set[int]] = {}
         for routine in report.routines:
+            if is_unnamed(routine):
+                continue
             if names.setdefault(routine.entry, routine.name) != routine.name:
                 return False
             if routine.name:
@@ -82,10 +88,23 @@ def of_one_image(reports: Sequence[Report]) -> bool:
     return 4 * differing <= len(shared) - differing
 
 
-def keys_of(reports: Sequence[Report]) -> dict[Routine, Key]:
+def is_unnamed(routine: Routine) -> bool:
+    """Whether its report can't know its name, as no call of it returned."""
+    return routine.name is None and not routine.points
+
+
+def name_unreturned(reports: Sequence[Report]) -> None:
+    """Gives the routines that have no name, as they never returned, the one at their address in the other reports."""
+    routines = [routine for report in reports for routine in report.routines]
+    names = {routine.entry: routine.name for routine in routines if not is_unnamed(routine)}
+    for routine in routines:
+        if is_unnamed(routine):
+            routine.name = names.get(routine.entry)
+
+
+def keys_of(reports: Sequence[Report], one_image: bool) -> dict[Routine, Key]:
     """What is equal for two routines exactly where they are to be joined."""
     keys: dict[Routine, Key] = {}
-    one_image = of_one_image(reports)
     for place, report in enumerate(reports):
         seen: Counter[str] = Counter()
         for routine in report.routines:
@@ -121,6 +140,7 @@ def join_contexts(reports: Sequence[Report], joined: dict[Routine, Routine]) -> 
                 new = places[caller, routine] = Context(routine, caller)
                 (caller.callees if caller else roots).append(new)
             new.points = add_points(new.points, context.points)
+            new.joined.append(context)
             below.extend((callee, new) for callee in reversed(context.callees))
     return roots
 

@@ -51,6 +51,13 @@ def strangers(reports: Sequence[Report]) -> Iterator[str]:
             return
 
 
+def without_contexts(reports: Sequence[Report]) -> Iterator[str]:
+    """A warning where some reports have calling contexts and others have none."""
+    lacking = [report for report in reports if report.roots is None]
+    if 0 < len(lacking) < len(reports):
+        yield f"{lacking[0].path} has no calling contexts, so those of the other reports are left out, and so is ITS OWN"
+
+
 def strange_pair(old: Sequence[Report], new: Sequence[Report]) -> Iterator[str]:
     """A warning about reports that are compared. Another build has other addresses, but names in common."""
     if few_names(addresses_of(old), addresses_of(new)):

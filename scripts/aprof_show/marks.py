@@ -3,15 +3,15 @@ from __future__ import annotations
 
 from collections.abc import Iterable
 
-from aprof_show.growth import Growth
+from aprof_show.growth import LEAST_LARGEST, Growth
 from aprof_show.terminal import factor_text
 
 STEEP, MANY, RISING, WEAK = "!", "*", "^", "~"
 MEANINGS = {
     STEEP: "superlinear: faster than n log n, at least at the largest sizes",
-    MANY: "harmless itself, but called so often that what calls it is superlinear",
+    MANY: "harmless itself, but its many calls together make what calls it superlinear",
     RISING: "rises from size to size: steeper than this at larger ones, so watch it",
-    WEAK: "few sizes, or sizes within a factor of 4: the growth is uncertain",
+    WEAK: f"few sizes, sizes below {LEAST_LARGEST}, or within a factor of 4: the growth is uncertain",
 }
 
 

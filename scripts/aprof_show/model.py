@@ -97,12 +97,14 @@ class Routine(Measured):
 
 @dataclass(eq=False)
 class Context(Measured):
-    """A chain of routines that call one another: the innermost one, its caller's context, and the points of its calls."""
+    """A chain of routines that call one another: the innermost one, its caller's context, and the points of its calls. `joined`
+    are those of several reports that it stands for, one of each report that has it."""
 
     routine: Routine
     caller: Context | None = field(repr=False)
     points: list[Point] = field(default_factory=list)
     callees: list[Context] = field(default_factory=list)
+    joined: list[Context] = field(default_factory=list, repr=False)
 
 
 @dataclass

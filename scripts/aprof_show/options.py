@@ -15,7 +15,7 @@ HELP = """Shows what `aprof run`, `replay`, `contexts` and `cache` store, and se
 one longer run.
 
   show REPORT...                       the routines, what to look at first
-  show REPORT... ROUTINE               a routine by doublings of its size; --plot draws it
+  show REPORT... ROUTINE...            a routine by doublings of its size; --plot draws it
   show --tree REPORT...                who calls whom, with the cost of each part (of `aprof contexts`)
   show --against OLD NEW               what has changed, the largest change first
   show --fail-above 2.5 REPORT...      status 1 where a growth is above 2.5
@@ -23,7 +23,7 @@ one longer run.
 """
 
 NOTES = """GROWTH is how many times the greatest cost of a call grows where its size doubles:
-near 2 is linear, near 4 quadratic; `-` where there is but one size other than 0.
+near 2 is linear, near 4 quadratic; `-` where there is at most one size other than 0.
 Where a few dear calls bend the greatest cost, it is of the mean: the routine's own
 lines tell. Beside it stand
 """
@@ -40,7 +40,8 @@ ESTIMATE is the greatest cost at two and ten times the largest size, by the grow
 SPREAD is the greatest ratio of costs at one size. POINTS is the number of sizes: a
 report has a point, with its costs, for each. A WORD is the greatest cost divided by
 the size, which is in words of 4 bytes. PLAIN, THREAD and KERNEL are the parts of the
-input that the thread itself or no one, another thread, or the kernel wrote.
+input that no one else, another thread, or the kernel wrote since the thread last read
+or wrote it.
 Status 0; 1 where --fail-above finds something (uncertain growths and
 routines of the C library count where they are named); 2 for a bad command line,
 report or image."""
@@ -81,7 +82,7 @@ def parser() -> argparse.ArgumentParser:
     name = called.name()
     result = Parser(
         prog="show",
-        usage=f"{name} [options] REPORT... [ROUTINE]",
+        usage=f"{name} [options] REPORT... [ROUTINE...]",
         description=HELP.replace("  show ", f"  {name} "),
         epilog=notes(),
         formatter_class=argparse.RawDescriptionHelpFormatter,
@@ -92,7 +93,8 @@ def parser() -> argparse.ArgumentParser:
     add_choices(result)
     add("--image", metavar="IMAGE", help="the executable: for names, files and lines")
     add("--against", metavar="OLD", help="compare with this earlier report, or a folder of them")
-    add("--fail-above", metavar="FACTOR", type=factor, help="status 1 if a routine's growth exceeds FACTOR and is not marked ~")
+    above = "status 1 if a growth, or what it rises to (^), exceeds FACTOR and is not marked ~"
+    add("--fail-above", metavar="FACTOR", type=factor, help=above)
     add("--plot", action="store_true", help="a chart of the routine")
     add("--version", action="store_true", help="the version of aprof")
     add_kinds(result)

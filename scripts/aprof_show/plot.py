@@ -50,7 +50,7 @@ def plot(routine: Routine, room: int) -> list[str]:
     """The chart, with lines for n and n² from the least point on."""
     points = [(point.size, max(point.most, 1)) for point in routine.points if point.size]
     if len(points) < 2:
-        return [f"{routine.label}: one size other than 0, nothing to draw"]
+        return [f"{routine.label}: at most one size other than 0, nothing to draw"]
     braille = can_print("⣿²")
     left, right = math.log(points[0][0]), math.log(points[-1][0])
     low = math.log(min(cost for _, cost in points))

@@ -21,7 +21,7 @@ ORDERS = ("growth", "share", "self", "name", *WRITERS)
 class Row:
     """`share` is the part of all instructions with its callees, and `own` its own. `exact` is false where calls nested in one
     another may have been counted each. `cause` is what it calls that has most of its cost, where its own part is small and there
-    are contexts; `reason` is why that makes it superlinear. `many` says that it is such a cause itself, by the number of its
+    are contexts; `reason` is why that makes it superlinear. `many` says that it is such a cause itself, by its many
     calls."""
 
     routine: Routine
@@ -71,7 +71,7 @@ class Explained:
     reasons: dict[Routine, Reason] = field(default_factory=dict)
 
     def many(self) -> set[Routine]:
-        """The causes whose number of calls is what grows."""
+        """The causes whose many calls together are what grows."""
         return {self.causes[routine].routine for routine, reason in self.reasons.items() if reason.is_of_number}
 
 

@@ -6,12 +6,12 @@ from collections.abc import Iterator, Mapping, Sequence
 from dataclasses import dataclass, field
 from itertools import groupby
 
-from aprof_show.costs import Cost, chain_of, costs_of, open_ends
+from aprof_show.costs import Cost, chain_of, costs_of, open_ends, rest_of
 from aprof_show.model import Context, Profile, Routine
 from aprof_show.tree import tree_of
 
-OPEN = "[open at the end]"
-"""What was spent in calls that had not returned, as far as no context tells it."""
+OPEN = "[open_at_the_end]"
+"""What was spent in calls that had not returned, as far as no context tells it: one word, as a folded stack has no spaces."""
 
 
 def folded(profile: Profile, roots: Sequence[Context]) -> Iterator[str]:
@@ -25,21 +25,16 @@ def folded(profile: Profile, roots: Sequence[Context]) -> Iterator[str]:
         if node.own:
             yield f"{chain} {node.own}"
         below.extend((chain + ";", callee) for callee in reversed(node.below.values()))
-    rest = rest_of(profile, costs)
+    rest = rest_of(profile.steps, costs)
     if rest:
         ends = open_ends(roots, costs)
         links = [frame(link.routine) for link in chain_of(ends[0])] if len(ends) == 1 else []
-        yield ";".join([*(link for link, _ in groupby(links)), OPEN.replace(" ", "_")]) + f" {rest}"
+        yield ";".join([*(link for link, _ in groupby(links)), OPEN]) + f" {rest}"
 
 
 def frame(routine: Routine) -> str:
     """A label without what ends a frame or a line."""
     return routine.label.replace(";", ":").replace(" ", "_")
-
-
-def rest_of(profile: Profile, costs: Mapping[Context, Cost]) -> int:
-    """The instructions that no context has for its own: those of calls that had not returned."""
-    return profile.steps - sum(cost.own for cost in costs.values())
 
 
 @dataclass
@@ -55,7 +50,7 @@ def callgrind(profile: Profile, roots: Sequence[Context], image: str | None, lin
     """The text. A routine's costs are all at the line where it begins, or at 0. `lines` are `file:line` by address."""
     costs = costs_of(roots)
     functions = functions_of(roots, costs)
-    rest = rest_of(profile, costs)
+    rest = rest_of(profile.steps, costs)
     yield "# callgrind format"
     yield "version: 1"
     yield "creator: aprof show"

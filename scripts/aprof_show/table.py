@@ -40,7 +40,12 @@ class Choice:
             return True
         least = 0.01 if self.least is None else self.least
         surely = row.superlinear and not row.uncertain
-        return row.share >= least or self.least is None and (surely or row.superlinear and row.projected_share >= least)
+        possibly = row.superlinear and row.projected_share >= least
+        return row.share >= least or self.least is None and (surely or possibly or self.asks_for(row))
+
+    def asks_for(self, row: Row) -> bool:
+        """Whether most of its input is by those whose part is the order."""
+        return self.by in WRITERS and written_part(row.routine, self.by, 0.0) > 0.5
 
 
 def summary(profile: Profile, rows: Sequence[Row], choice: Choice, room: int) -> list[str]:
@@ -163,7 +168,7 @@ def folded_lines(rows: Sequence[Row], room: int) -> list[str]:
 
 
 def sure_of(rows: Sequence[Row]) -> list[Row]:
-    """Those whose growth is not uncertain, and those that are called too often whatever their growth."""
+    """Those whose growth is not uncertain, and those that are marked for their many calls, whatever their growth."""
     return [row for row in rows if row.many or not row.uncertain]
 
 
@@ -181,7 +186,7 @@ def signs_of(rows: Sequence[Row]) -> list[str]:
 
 
 def marked_of(rows: Sequence[Row]) -> list[Row]:
-    """Those with a sign before their growth. What is called too often comes first, as no other line has it."""
+    """Those with a sign before their growth. What is marked for its many calls comes first, as no other line has it."""
     return sorted(ordered([row for row in rows if row.superlinear or row.many], None), key=lambda row: not row.many)
 
 

@@ -18,6 +18,7 @@ WORDS = "examples/words/report.txt"
 ROUTINES = "examples/routines/report.txt"
 BUBBLE = "examples/bubble/report.txt"
 CACHE = "examples/matrix/small.txt"
+COLUMNS = "size calls least most cost plain thread kernel bare".split()
 CONTEXTS = "rows/two-ways-to-a-routine/report"
 
 
@@ -127,7 +128,8 @@ class Data(unittest.TestCase):
     def test_json(self) -> None:
         value = json.loads(show("--json", CONTEXTS))
         self.assertEqual(sorted(value), ["contexts", "format", "reports", "routines"])
-        self.assertEqual(value["format"], "aprof-show 1")
+        self.assertEqual(value["format"], "aprof-show 2")
+        self.assertEqual(list(value["routines"][0]["points"][0]), COLUMNS)
         self.assertEqual([context["caller"] for context in value["contexts"]], [None, 0, 0, 2])
         self.assertEqual(sum(context["self"] for context in value["contexts"]), 11)
         plain = json.loads(show("--json", WORDS))
@@ -140,6 +142,7 @@ class Data(unittest.TestCase):
         rows = list(csv.DictReader(io.StringIO(show("--csv", WORDS))))
         stored = [line for line in (ROOT / WORDS).read_text().splitlines() if line[0].isdigit()]
         self.assertEqual([" ".join(list(row.values())[2:]) for row in rows], stored)
+        self.assertEqual(list(rows[0]), ["routine", "entry", *COLUMNS])
 
 
 class Against(unittest.TestCase):
@@ -155,7 +158,8 @@ class Against(unittest.TestCase):
             text = show("--against", *map(str, paths)).splitlines()
             self.assertEqual(text[0], "6344 instructions before, 11676 after")
             self.assertEqual(text[2].split(), "GROWTH NOW CALLEES NOW COST NOW ROUTINE".split())
-            self.assertEqual(text[3].split(), "x2.0 x4.0 2.0% 46.7% 64 4096 look_up".split())
+            self.assertEqual(text[3].split(), "x2.0 !x4.0 2.0% 46.7% 64 4096 look_up".split())
+            self.assertIn("! superlinear: faster than n log n, at least at the largest sizes", text)
             folder_of = [path.with_name(f"{path.name}-runs") for path in paths]
             for path, runs in zip(paths, folder_of):
                 runs.mkdir()

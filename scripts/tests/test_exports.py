@@ -48,7 +48,7 @@ class Exports(unittest.TestCase):
             self.assertEqual(shown.stderr, "")
             self.assertRegex(shown.stdout, rf"(?m)^\s*{profile.steps:,} .*PROGRAM TOTALS")
             own = sum(cost.own for cost in costs_of(roots).values())
-            self.assertEqual("[open at the end]" in shown.stdout, own < profile.steps)
+            self.assertEqual("[open_at_the_end]" in shown.stdout, own < profile.steps)
             for routine, cost in costs_by_routine(roots, costs_of(roots)).items():
                 if cost.own:
                     self.assertRegex(shown.stdout, rf"(?m)^\s*{cost.own:,} \(.*\*\s.*:{routine.name}")

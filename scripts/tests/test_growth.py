@@ -173,6 +173,14 @@ class FewPoints(unittest.TestCase):
                 assert growth
                 self.assertEqual(growth.weak, weak)
 
+    def test_small_sizes(self) -> None:
+        """From case to case a cost may jump: below 16 words that is not superlinear, and uncertain where it looks so."""
+        for most, curve, weak, superlinear in ((15, SQUARE, "sizes below 16", False), (16, SQUARE, None, True), (15, LINEAR, None, False)):
+            with self.subTest(most=most, weak=weak):
+                growth = growth_of(points_of([(size, curve(size)) for size in range(2, most + 1)]))
+                assert growth
+                self.assertEqual((growth.weak, growth.superlinear), (weak, superlinear))
+
     def test_odd_costs(self) -> None:
         """Costs that fall, that are all the same or that jump give a number all the same."""
         falling, level = [(1, 9), (2, 8), (3, 1)], [(5, 7), (50, 7), (500, 7), (5000, 7)]

@@ -4,7 +4,8 @@ from __future__ import annotations
 import random
 import unittest
 
-from aprof_show.costs import contexts_of
+from aprof_show.costs import contexts_of, costs_by_routine, costs_of
+from aprof_show.heading import head, open_lines
 from aprof_show.joining import join
 from aprof_show.model import Context, Point, Profile, Routine
 from tests.samples import ADDRESSES, Call, Run, random_call, report_of, stored
@@ -87,3 +88,40 @@ class Keys(unittest.TestCase):
     def test_contexts_with_a_plain_report(self) -> None:
         run = Run([Call("main")], ADDRESSES)
         self.assertIsNone(join([report_of(run.text(True)), report_of(run.text())]).roots)
+
+
+class CutOff(unittest.TestCase):
+    """A run that was cut off, joined with others that were not."""
+
+    WHOLE = Run([Call("main", 9, 7, [Call("parse", 4, 60, [Call("leaf", own=30)])])], ADDRESSES)
+    CUT = Run([Call("main", 9, 7, [Call("parse", 4, 60, [Call("leaf", own=900), Call("leaf", open=True)])])], ADDRESSES, end="budget")
+
+    def joined(self, *runs: Run) -> Profile:
+        return join([report_of(run.text(True), f"r{place}") for place, run in enumerate(runs)])
+
+    def test_costs_are_known_by_report(self) -> None:
+        """What the finished runs tell of own costs stays, and what they cost is added to the least that is sure of the other."""
+        profile = self.joined(self.WHOLE, self.CUT)
+        costs = costs_by_routine(profile.roots or [], costs_of(profile.roots or []))
+        told = {routine.name: (cost.total, cost.own, cost.open) for routine, cost in costs.items()}
+        self.assertEqual(told, {"main": (97 + 900, 7, True), "parse": (90 + 900, 60, True), "leaf": (930, 930, False)})
+
+    def test_a_name_that_another_report_has(self) -> None:
+        """A routine that never returned in a run is nameless there, and is one with that of the other run."""
+        self.assertEqual([routine.label for routine in self.joined(self.CUT, self.WHOLE).routines], ["main", "parse", "leaf"])
+        other = Run([Call("main", calls=[Call("parse"), Call("leaf")])], MOVED)
+        self.assertEqual(len(self.joined(self.CUT, other).routines), 5)
+
+    def test_the_ends_tell_their_reports(self) -> None:
+        self.assertEqual(head(self.joined(self.WHOLE, self.CUT, self.WHOLE))[0].split(", ")[2:4], ["end exit 0 (2)", "end budget (1)"])
+        lines = head(self.joined(self.WHOLE, self.CUT, self.WHOLE))[1:]
+        self.assertRegex("".join(lines), r"^end budget: [^ ]*r1$")
+        many = head(self.joined(*[self.CUT] * 5, *[self.WHOLE] * 6))[1:]
+        self.assertRegex("".join(many), r"^end budget: [^ ]*r0, [^ ]*r1, [^ ]*r2 and 2 more$")
+        self.assertEqual(head(self.joined(self.CUT, self.CUT))[1:], [])
+
+    def test_open_calls_are_counted_by_report(self) -> None:
+        """The calls of both runs stand in the chain; in each run one more is open, of a routine that had returned there."""
+        lines = open_lines(self.joined(self.CUT, self.CUT, self.WHOLE), 200)
+        self.assertEqual(lines[0], "open at the end: main > parse")
+        self.assertTrue(lines[-1].startswith("and 2 more open calls of routines"))

@@ -24,7 +24,7 @@ class Causes(PageCase):
     def test_the_cause_is_a_link(self) -> None:
         self.open(profile_of(*map(through_a_list, SIZES)), "#routine=parse")
         self.assertEqual(self.ask(text_of("#cause")), "99.8 % of its cost is in look_up with its callees, called 238 times; each of those calls is about linear in its own input, "
-                         "so it is the number of calls that grows.")
+                         "so it is their number, and perhaps what each of them reads, that grows.")
         self.browser.click("#cause a")
         self.assertEqual(self.shown(), "look_up")
         self.assertIn("is in compare with its callees, called 10,783 times", str(self.ask(text_of("#cause"))))

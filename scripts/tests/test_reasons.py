@@ -13,12 +13,28 @@ from tests.samples import ADDRESSES, Call, Run, report_of
 from tests.test_causes import SIZES, comparisons, profile_of, recursive, through_a_list
 
 NUMBER = "so it is the number of calls that grows"
+NUMBER_AND_SIZE = "so it is their number, and perhaps what each of them reads, that grows"
 NUMBER_OR_SIZE = "so it is the number of calls, or what each of them reads, that grows"
 
 
 def scans(n: int) -> Call:
     """Each call reads as much as the whole input has, which the routine wrote before."""
     return Call("parse", n, n, [Call("look_up", 2 * n, 4 * n) for _ in range(n)])
+
+
+def to_the_end(n: int) -> Call:
+    """Each call walks one of eight lists to its end, and its fixed cost and the routine's own work hide the square."""
+    return Call("parse", n, 150 * n, [Call("look_up", k // 8 + 8, 150 + k // 2) for k in range(n)])
+
+
+def own_square(n: int) -> Call:
+    """What grows with the square is its own work, beside many calls."""
+    return Call("parse", n, n * n // 5, [Call("look_up", k % 64 + 8, 3 * (k % 64) + 150) for k in range(n)])
+
+
+def short_scans(n: int) -> Call:
+    """Their number grows with the square, and each reads a few words."""
+    return Call("parse", n, n, [Call("look_up", k % 16 + 4, 3 * (k % 16 + 4)) for k in range(n * n)])
 
 
 def a_table(n: int) -> Call:
@@ -49,16 +65,17 @@ def through_two(n: int) -> Call:
 
 # the calls, and the sentence on `parse`, or what it ends with where nothing is shown
 CASES: list[tuple[Callable[[int], Call], str]] = [
-    (through_a_list, f"called 238 times; each of those calls is about linear in its own input, {NUMBER}"),
+    (through_a_list, f"called 238 times; each of those calls is about linear in its own input, {NUMBER_AND_SIZE}"),
     (comparisons, f"called 21824 times; each of those calls costs at most 9 instructions, {NUMBER}"),
+    (short_scans, f"called 21824 times; each of those calls is about linear in its own input, {NUMBER}"),
     (scans, f"called 248 times; each of those calls is about linear in its own input, {NUMBER_OR_SIZE}"),
     (a_table, "called 5 times; each of those calls is about linear in its own input, so it is what each of them reads that grows"),
     (squares, "called 5 times; each of those calls is itself about n^2 in its own input, so look there first"),
     (own_work, "called 5 times"),
     (linear, "called 248 times"),
     (recursive, "called 10 times"),
-    (through_one, f"called 238 times, indirectly through spin; each of those calls is about linear in its own input, {NUMBER}"),
-    (through_two, f"called 248 times, directly and through spin and 1 other; each of those calls is about linear in its own input, {NUMBER}"),
+    (through_one, f"called 238 times, indirectly through spin; each of those calls is about linear in its own input, {NUMBER_AND_SIZE}"),
+    (through_two, f"called 248 times, directly and through spin and 1 other; each of those calls is about linear in its own input, {NUMBER_AND_SIZE}"),
 ]
 
 
@@ -97,10 +114,21 @@ class Reasons(unittest.TestCase):
         self.assertIn("marked in the C library: strlen *x2.0 (--library)", text)
         self.assertTrue(any(line.startswith("* harmless itself") for line in text))
 
+    def test_one_call_in_each_report(self) -> None:
+        """Then their whole cost is known by the size of that call, and tells where one report of all calls doesn't."""
+        trees = [(to_the_end, NUMBER_AND_SIZE), (own_square, "called 1984 times"), (linear, "called 1984 times")]
+        for tree, wanted in trees:
+            calls = [tree(n) for n in (64, 128, 256, 512, 1024)]
+            apart = join([report_of(Run([Call("main", 9, 1, [call])], ADDRESSES).text(contexts=True)) for call in calls])
+            whole = join([report_of(Run([Call("main", 9, 1, calls)], ADDRESSES).text(contexts=True))])
+            with self.subTest(tree.__name__):
+                self.assertTrue(sentence(row_of(apart, "parse")).endswith(wanted))
+                self.assertEqual(sentence(row_of(whole, "parse")), "called 1984 times")
+
     def test_several_reports(self) -> None:
         """A report for each input says the same as one of all."""
         reports = [report_of(Run([Call("main", 9, 1, [through_a_list(n)])], ADDRESSES).text(contexts=True)) for n in SIZES]
-        self.assertIn(NUMBER, sentence(row_of(join(reports), "parse")))
+        self.assertIn(NUMBER_AND_SIZE, sentence(row_of(join(reports), "parse")))
 
 
 if __name__ == "__main__":

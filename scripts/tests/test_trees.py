@@ -78,7 +78,16 @@ class OpenAtTheEnd(unittest.TestCase):
         profile = profile_of(SPINNING, end="budget")
         spin = f"{ADDRESSES['spin']:08x}"
         self.assertEqual(open_lines(profile, 80)[0], f"open at the end: {ADDRESSES['main']:08x} > parse > {spin}")
-        self.assertIn("--image IMAGE names", open_lines(profile, 80)[1])
+        self.assertIn("--image IMAGE names", "".join(open_lines(profile, 80)))
+
+    def test_what_no_row_has(self) -> None:
+        """Where most of the instructions went is said where only open calls had them, and not where they are few."""
+        says = "97.9% of all instructions are of calls that had not returned, and are in no row; --folded has them under this stack"
+        self.assertEqual(open_lines(profile_of(SPINNING, end="budget"), 200)[1], says)
+        two = open_lines(profile_of(SPINNING, Call("look_up", own=900, open=True), end="budget"), 200)
+        self.assertEqual(two[2], says.replace("97.9", "98.9").replace("under this stack", "as [open_at_the_end]"))
+        few = profile_of(Call("main", own=4, open=True, calls=[Call("parse", own=96)]), end="budget")
+        self.assertFalse(any("in no row" in line for line in open_lines(few, 200)))
 
     def test_more_than_are_sure(self) -> None:
         """A second thread in the same routines is open too, and only the number tells."""
@@ -119,7 +128,8 @@ class OpenAtTheEnd(unittest.TestCase):
 
     def test_plain_report(self) -> None:
         profile = join([report_of(Run([SPINNING], ADDRESSES, end="budget").text())])
-        self.assertEqual(open_lines(profile, 80), ["3 calls had not returned; `aprof contexts` stores which"])
+        self.assertEqual(" ".join(open_lines(profile, 80)).replace("     ", " "),
+                         "3 calls had not returned, whose own cost is in no row; `aprof contexts` stores which")
 
 
 class Trees(unittest.TestCase):
@@ -140,7 +150,7 @@ class Trees(unittest.TestCase):
             " 100.0%  2.8%     -      1  main",
             "  97.2% 83.3%  x1.7~     3    parse (recursive)",
             "  13.9% 13.9%     -      1      leaf",
-            "~ few sizes, or sizes within a factor of 4: the growth is uncertain",
+            "~ few sizes, sizes below 16, or within a factor of 4: the growth is uncertain",
         ])
 
     def test_recursion_by_another_is_not_followed_again(self) -> None:

@@ -177,12 +177,24 @@ class Programs(unittest.TestCase):
                         self.assertEqual(text.startswith("show: warning: "), bool(said), text)
                         self.assertIn(said, text)
 
+    def test_contexts_of_some(self) -> None:
+        """A report without contexts takes those of the others away, and that is said."""
+        run = Run([Call("main", 8, 1, [Call("parse", 8, 9)])], {"main": 0x10000, "parse": 0x11000})
+        with tempfile.TemporaryDirectory() as folder:
+            paths = [str(Path(folder, name)) for name in ("plain", "with")]
+            for path, contexts in zip(paths, (False, True)):
+                Path(path).write_text(run.text(contexts))
+            said = f"show: warning: {paths[0]} has no calling contexts, so those of the other reports are left out, and so is ITS OWN\n"
+            self.assertEqual(warned(*paths), said)
+            self.assertEqual(warned("--against", paths[1], *paths), said)
+            self.assertEqual(warned("--against", *paths), "")
+
     def test_growth_between_two_sizes(self) -> None:
         names = {"parse": 0x11000}
         with tempfile.TemporaryDirectory() as folder:
             small, large, same = (self.run_of(folder, name, names, size) for name, size in (("a", 8), ("b", 32), ("c", 8)))
             text = show("--against", small, large).splitlines()
-            self.assertEqual(next(line for line in text if "parse" in line).split()[:2], ["-", "x4.0~"])
+            self.assertEqual(next(line for line in text if "parse" in line).split()[:2], ["-", "!x4.0~"])
             self.assertIn("from the one call before to the one call now", text[-1])
             near = self.run_of(folder, "d", names, 12)
             for other in (same, near):

@@ -8,13 +8,14 @@ from pathlib import Path
 from aprof_show.detail import detail, notes
 from aprof_show.model import Parts, Point, Routine
 from aprof_show.rows import ordered, row_of
+from aprof_show.table import Choice
 from tests.samples import ADDRESSES, Call, Run
 from tests.test_command import CACHE, show
 
 QUEUE = "examples/queue/report.txt"
 NOTE = (
-    "A WORD is the greatest cost by word of the size. PLAIN: no one else wrote those words since the thread last had them; "
-    "THREAD: another; KERNEL: the kernel"
+    "A WORD is the greatest cost by word of the size. PLAIN: the thread itself had read or written those words since anyone else "
+    "wrote them, or no one wrote them; THREAD: another thread wrote them; KERNEL: the kernel did"
 )
 
 
@@ -37,6 +38,13 @@ class Orders(unittest.TestCase):
         for by, names in (("thread", "takes reads alone empty open"), ("kernel", "reads takes alone empty open")):
             with self.subTest(by):
                 self.assertEqual([row.routine.label for row in ordered(rows, by)], names.split())
+
+    def test_cheap_routines_are_listed(self) -> None:
+        """Those with most of their input from there, whatever their cost; a part that is asked for holds all the same."""
+        rows = [row_of(routine_of("reads", (1, 1, 6)), None, 10_000, None), row_of(routine_of("alone", (4, 1, 3)), None, 10_000, None)]
+        self.assertEqual([Choice(by="kernel").has(row) for row in rows], [True, False])
+        self.assertEqual([Choice(by="kernel", least=0.5).has(row) for row in rows], [False, False])
+        self.assertEqual([Choice(by="thread").has(row) for row in rows], [False, False])
 
     def test_column(self) -> None:
         for by, first in (("thread", "- 46.8% 97.5% 1.0 1 1 448 make_numbers"), ("kernel", "- 52.8% 0.3% 1.0 1 1 971 main")):

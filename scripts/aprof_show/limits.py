@@ -1,0 +1,69 @@
+"""Growths above a limit, as `--fail-above` tells of them."""
+from __future__ import annotations
+
+from collections.abc import Collection, Iterator, Sequence
+from dataclasses import replace
+
+from aprof_show.costs import costs_of
+from aprof_show.growth import Growth, factor_of
+from aprof_show.model import Profile, Report, Routine
+from aprof_show.rows import Row, ordered
+from aprof_show.table import Choice, share_text
+from aprof_show.terminal import factor_text, plural
+
+
+def above(rows: Sequence[Row], limit: float, named: Collection[Routine], choice: Choice) -> list[Row]:
+    """The rows whose growth is above a limit, or rises above it, in the order of the table. With names only those routines are
+    looked at; without, those that the table would tell of, and none whose growth is uncertain."""
+    found = [row for row in ordered(rows, choice.by) if row.growth and factor_of(row.growth.ahead) > limit]
+    if named:
+        return [row for row in found if row.routine in named]
+    least = choice.least or 0.0
+    return [row for row in found if not row.uncertain and row.share >= least and (choice.library or not row.library)]
+
+
+def above_text(rows: Sequence[Row], limit: float) -> list[str]:
+    return [
+        f"{row.routine.label} grows {above_limit(row.growth, limit)} ({share_text(row)} of all instructions with its callees)"
+        for row in rows
+        if row.growth
+    ]
+
+
+def above_limit(growth: Growth, limit: float) -> str:
+    """With as many digits as tell both apart."""
+    rises = growth.factor <= limit
+    factor, digits = factor_of(growth.ahead) if rises else growth.factor, 1
+    while digits < 6 and factor_text(factor, digits) == factor_text(limit, digits):
+        digits += 1
+    before = f"{factor_text(growth.factor)}, rising to " if rises else ""
+    return f"{before}{factor_text(factor, digits)}{'~' * (growth.weak is not None)}, above {factor_text(limit, digits)}"
+
+
+def not_judged(rows: Sequence[Row], limit: float, named: Collection[Routine], choice: Choice) -> list[str]:
+    """What is said of routines of the C library whose growth is above the limit, where they don't count."""
+    if named or choice.library:
+        return []
+    left = [row for row in above(rows, limit, named, replace(choice, library=True)) if row.library]
+    text = f"{plural(len(left), 'C library routine')} above {factor_text(limit)} not counted: --library"
+    return [text] if left else []
+
+
+def unreturned(profile: Profile, named: Collection[Routine]) -> Iterator[str]:
+    """Warnings about named routines that had not returned in a report, so that nothing is known of what they cost there."""
+    for routine in profile.routines:
+        for report in profile.reports:
+            if routine in named and report.still_open:
+                yield from unreturned_in(report, routine)
+
+
+def unreturned_in(report: Report, routine: Routine) -> Iterator[str]:
+    def is_it(other: Routine) -> bool:
+        return other.name == routine.name if routine.name else other.entry == routine.entry
+
+    if report.roots is not None:
+        if any(cost.open and is_it(context.routine) for context, cost in costs_of(report.roots).items()):
+            yield f"{routine.label} had not returned at the end of {report.path}, so that call is not judged"
+    elif not any(map(is_it, report.routines)):
+        calls = plural(report.still_open, "call")
+        yield f"{report.path} has no call of {routine.label} that returned, and {calls} that had not: what they cost is not judged"

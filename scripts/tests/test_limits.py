@@ -1,0 +1,45 @@
+"""What `--fail-above` judges, and what it says of the rest."""
+from __future__ import annotations
+
+import tempfile
+import unittest
+from pathlib import Path
+
+from tests.samples import ADDRESSES, Call, Run
+from tests.test_command import show
+from tests.test_words import warned
+
+SIZES = [256 << step for step in range(7)]
+RISING = Run([Call("main", 9, 1, [Call("look_up", size, 40 * size + size * size // 100) for size in SIZES])], ADDRESSES)
+CUT_OFF = Run([Call("main", 9, 1, [Call("parse", 9, 9), Call("look_up", 9, 9, open=True)])], ADDRESSES, end="budget")
+
+
+class Limits(unittest.TestCase):
+    def paths(self, contexts: bool, *runs: Run) -> list[str]:
+        folder = tempfile.TemporaryDirectory()
+        self.addCleanup(folder.cleanup)
+        for number, run in enumerate(runs):
+            Path(folder.name, f"r{number}").write_text(run.text(contexts))
+        return [str(Path(folder.name, f"r{number}")) for number in range(len(runs))]
+
+    def test_what_it_rises_to_is_judged(self) -> None:
+        paths = self.paths(False, RISING)
+        text = show(*paths, "--fail-above", "3.2", status=1)
+        self.assertRegex(text, r"^look_up grows x3\.1, rising to x3\.[3-9], above x3\.2 \(")
+        self.assertEqual(show(*paths, "--fail-above", "4"), "")
+        self.assertRegex(show(*paths, "--fail-above", "2.1", status=1), r"^look_up grows x3\.1, above x2\.1 \(")
+
+    def test_a_call_that_had_not_returned(self) -> None:
+        """It is warned of a named routine alone, as far as the report tells."""
+        told = "look_up had not returned at the end of {}, so that call is not judged"
+        plain = "{} has no call of look_up that returned, and 2 calls that had not: what they cost is not judged"
+        for contexts, said in ((True, told), (False, plain)):
+            with self.subTest(contexts=contexts):
+                paths = self.paths(contexts, RISING, CUT_OFF)
+                self.assertEqual(warned(*paths, "--fail-above", "9", "--routine", "look_up"), f"show: warning: {said.format(paths[1])}\n")
+                self.assertEqual(warned(*paths, "--fail-above", "9", "--routine", "parse"), "")
+                self.assertEqual(warned(*paths, "--fail-above", "9"), "")
+
+
+if __name__ == "__main__":
+    unittest.main()
