@@ -44,7 +44,7 @@ class Output(unittest.TestCase):
 
     def test_a_reader_that_stops(self) -> None:
         done = subprocess.run(f"{ROOT}/show --csv {WORDS} | head -n 1", shell=True, capture_output=True, text=True, cwd=ROOT)
-        self.assertEqual(done.stdout, "routine,entry,size,calls,least,most,cost,own,thread,kernel,bare\n")
+        self.assertEqual(done.stdout, "routine,entry,size,calls,least,most,cost,plain,thread,kernel,bare\n")
         self.assertEqual(done.stderr, "")
 
 
