@@ -4,7 +4,9 @@ use Rattle.std.proofs.lemmas.Bool.{cases_eq}
 use Rattle.std.proofs.lemmas.List.{take_all, take-append-drop, take_more}
 use Rattle.trace_model.specs.declared.event_kinds.Event.{Event}
 use Rattle.trace_model.specs.Cut.{IsPrefixClosed, cut, past_after}
-use Rattle.trace_model.specs.Observing.{StepsFit, with_steps}
+use Rattle.trace_model.specs.declared.observer.Observed.{Observed}
+use Rattle.trace_model.specs.declared.observer.Observed.TheVariants.{Taken, Refused}
+use Rattle.trace_model.specs.Observing.{MayStepBy, MayTake, MayTakeAfter, Observes, ObservesAfter, StepsBy, StepsFit, with_steps}
 use Rattle.trace_model.specs.WellFormed.{IsWellFormed}
 use Rattle.trace_model.proofs.Cut.{cut-here, fits-earlier, past_after-append}
 
@@ -49,3 +51,16 @@ steps_formed tid (suc n) k past low formed = elim (cases_eq k n) [
   | inl last ↦ subst (λ j. IsWellFormed (with_steps tid (suc j) past)) (sym last) formed
   | inr before ↦ steps_formed tid n k past (omega (arith, low, before)) formed.2
 ]
+
+-- ---- and an event behind them
+module _ {O : Type 0} (Stands : O → List Event → Type 0) (fits : List Event → Bool) (tid n : ℕ) (e : Event) (old : O) where
+  pub may_step_before : MayTakeAfter Stands fits old tid n e → MayStepBy Stands fits old tid n
+  may_step_before may = record { past = may.past; now = may.now; fitting = may.fitting; formed = may.formed.2 }
+
+  module _ (mid : O) (steps : StepsBy Stands fits tid n old mid) where
+    pub may_take_behind : MayTakeAfter Stands fits old tid n e → MayTake Stands mid e
+    may_take_behind may = record { past = with_steps tid n may.past; now = steps may.past may.now may.fitting; formed = may.formed }
+
+    pub observes_after : (new : O) (observed : Observed) → Observes Stands fits e mid new observed → ObservesAfter Stands fits tid n e old new observed
+    observes_after new Taken observes = λ past stood fitting. observes (with_steps tid n past) (steps past stood fitting)
+    observes_after new Refused observes = λ past stood fitting. observes (with_steps tid n past) (steps past stood fitting)

@@ -60,3 +60,21 @@ pub record MayStepBy {O : Type 0} (Stands : O → List Event → Type 0) (fits :
 -- Whatever past that fits it stood for, it stands for that with the steps.
 abbrev pub StepsBy : {O : Type 0} → (O → List Event → Type 0) → (List Event → Bool) → ℕ → ℕ → O → O → Type 0
 StepsBy Stands fits tid count old new = (past : List Event) → Stands old past → fits past ≡ true → Stands new (with_steps tid count past)
+
+-- ---- Steps of a thread in a row, and an event behind them.
+-- It stands for some past that fits and after which `count` steps of the thread and then the event may come.
+pub record MayTakeAfter {O : Type 0} (Stands : O → List Event → Type 0) (fits : List Event → Bool) (o : O) (tid count : ℕ) (e : Event) : Type 0 where
+  pub past : List Event
+  pub now : Stands o past
+  pub fitting : fits past ≡ true
+  pub formed : IsWellFormed (e ∷ with_steps tid count past)
+
+-- Whatever past that fits it stood for, it stands for that with the steps and the event, which fits; or with the steps alone,
+-- since the event does not fit.
+abbrev pub ObservesAfter : {O : Type 0} → (O → List Event → Type 0) → (List Event → Bool) → ℕ → ℕ → Event → O → O → Observed → Type 0
+ObservesAfter Stands fits tid count e old new Taken =
+    (past : List Event) → Stands old past → fits past ≡ true →
+    Stands new (e ∷ with_steps tid count past) × (fits (e ∷ with_steps tid count past) ≡ true)
+ObservesAfter Stands fits tid count e old new Refused =
+    (past : List Event) → Stands old past → fits past ≡ true →
+    Stands new (with_steps tid count past) × (fits (e ∷ with_steps tid count past) ≡ false)

@@ -2,7 +2,7 @@
 ghost use Rattle.std.specs.Prelude.{◌≡◌, ◌≤◌, Bool, List, IfOk, OnErr, OnOk};
 ghost use Rattle.trace_model.specs.declared.event_kinds.Event.{Event};
 ghost use Rattle.trace_model.specs.Cut.{IsPrefixClosed};
-ghost use Rattle.trace_model.specs.Observing.{MayStepBy, MayTake, MayTakeAll, Observes, ObservesAll, StandsAsBefore, StepsBy, StepsFit};
+ghost use Rattle.trace_model.specs.Observing.{MayStepBy, MayTake, MayTakeAfter, MayTakeAll, Observes, ObservesAfter, ObservesAll, StandsAsBefore, StepsBy, StepsFit};
 
 use crate::Event;
 use guest_words::Tid;
@@ -50,6 +50,19 @@ pub trait Observer {
             }
         }
         Ok(())
+    }
+
+    /// Takes `count` steps of a thread in a row, and then an event, which alone it may refuse: one after the other, unless there
+    /// is a quicker way.
+    #[inline(always)]
+    fn observe_after(&mut self, tid: Tid, count: u64, e: Event) -> Result<Observed, AllocError>
+        requires may { MayTakeAfter stands (fits self.old) self.old tid count e }
+        requires some { 1 ≤ count }
+        ensures observed { IfOk result (ObservesAfter stands (fits self.old) tid count e self.old self.new) }
+        ensures same { fits self.new ≡ fits self.old }
+    {
+        self.observe_steps(tid, count)?;
+        self.observe(e)
     }
 }
 
