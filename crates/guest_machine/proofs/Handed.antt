@@ -5,7 +5,7 @@ use Rattle.trace_model.specs.declared.observer.Observed.{Observed}
 use Rattle.trace_model.specs.declared.observer.Observed.TheVariants.{Taken, Refused}
 use Rattle.trace_model.specs.declared.event_kinds.Event.TheVariants.{Step}
 use Rattle.trace_model.specs.Cut.{IsPrefixClosed, cut, past_after}
-use Rattle.trace_model.specs.Observing.{MayStepBy, MayTakeAll, Observes, ObservesAll, StepsBy, StepsFit, is_taken, with_steps}
+use Rattle.trace_model.specs.Observing.{MayStepBy, MayTakeAfter, MayTakeAll, Observes, ObservesAfter, ObservesAll, StepsBy, StepsFit, is_taken, with_steps}
 use Rattle.trace_model.specs.WellFormed.{IsWellFormed}
 use Rattle.trace_model.proofs.Cut.{cut-fits, cut-here, fits-earlier, past_after-append, past_after-cons}
 use Rattle.trace_model.proofs.Feeding.{fits_on, formed-earlier}
@@ -64,3 +64,30 @@ module _ {W : Type 0} (Stands : W → List Event → Type 0) (fits : List Event 
         let now = rest (with_steps tid n past) (steps past stood fitting) (fits_on fits fit tid n past fitting) in
         let same = sym (past_of_all tid n past events) in
         (subst (λ (p : List Event). Stands new (cut fits p)) same now.0, subst (λ (p : List Event). fits p ≡ is_taken observed) same now.1)
+
+-- ---- steps in a row, and one event behind them
+module _ {W : Type 0} (Stands : W → List Event → Type 0) (fits : List Event → Bool) (tid n : ℕ) (e : Event) (old : W) where
+  pub may_after : MayTakeAll Stands fits old (steps_of tid n ++ e ∷ []) → MayTakeAfter Stands fits old tid n e
+  may_after may = record {
+    past = may.past;
+    now = may.now;
+    fitting = may.fitting;
+    formed = subst IsWellFormed (past_of_all tid n may.past (e ∷ [])) may.formed;
+  }
+
+  observes_to : (new : W) (past whole : List Event) → past_after past (steps_of tid n ++ e ∷ []) ≡ e ∷ with_steps tid n past → cut fits (e ∷ with_steps tid n past) ≡ whole →
+      Stands new whole → Stands new (cut fits (past_after past (steps_of tid n ++ e ∷ [])))
+  observes_to new past whole all cuts stands = subst (Stands new) (sym (ap (cut fits) all ∙ cuts)) stands
+
+  pub observes_behind : IsPrefixClosed fits → StepsFit fits → (new : W) (observed : Observed) → ObservesAfter Stands fits tid n e old new observed →
+      ObservesAll Stands fits (steps_of tid n ++ e ∷ []) old new observed
+  observes_behind closed fit new Taken observes = λ past stood fitting.
+      let now = observes past stood fitting in
+      let all = past_of_all tid n past (e ∷ []) in
+      (observes_to new past (e ∷ with_steps tid n past) all (cut-fits fits (e ∷ with_steps tid n past) now.1) now.0, ap fits all ∙ now.1)
+  observes_behind closed fit new Refused observes = λ past stood fitting.
+      let now = observes past stood fitting in
+      let all = past_of_all tid n past (e ∷ []) in (
+        observes_to new past (with_steps tid n past) all (cut-here fits closed (with_steps tid n past) [] e (fits_on fits fit tid n past fitting) now.1) now.0,
+        ap fits all ∙ now.1,
+      )

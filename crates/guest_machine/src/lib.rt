@@ -13,6 +13,7 @@ mod image_pages;
 mod known;
 mod laws;
 mod machine;
+mod making;
 mod rows;
 mod setup;
 mod stack;

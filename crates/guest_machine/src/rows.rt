@@ -1,6 +1,7 @@
 //! Steps of one thread in a row, as long as their instructions can be known.
-ghost use Rattle.std.specs.Prelude.{◌≡◌, ◌≤◌, ◌<◌, ◌+◌, ◌^◌, ◌++◌, IfOk, OnOk};
-ghost use Rattle.guest_memory.specs.Code.{IsCodeOf};
+ghost use Rattle.std.specs.Prelude.{◌≡◌, ◌≤◌, ◌<◌, ◌+◌, ◌%◌, ◌^◌, ◌++◌, IfOk, OnOk, length};
+ghost use Rattle.guest_memory.specs.Code.{IsCodeFrom};
+ghost use Rattle.rv_isa.specs.declared.instruction.Instr.{Instr};
 ghost use Rattle.guest_memory.specs.Guest.{memory_of};
 ghost use Rattle.rv_exec.specs.Effects.{exec_state_of};
 ghost use Rattle.rv_exec.specs.Registers.{with_pc};
@@ -13,8 +14,9 @@ ghost use Rattle.guest_machine.specs.Told.{IsInstruction, done_by, steps_of};
 
 use crate::Advanced;
 use crate::known::{Reading, carry_out, carry_out_next, carry_out_reading};
+use crate::making::{Made, make_load, make_store};
 use crate::telling::observe_told;
-use guest_memory::{CodePage, GuestMemory, Reservations};
+use guest_memory::{GuestMemory, Reservations, find_in};
 use guest_words::{Addr, Tid};
 use rv_exec::Cpu;
 use rv_isa::Instr;
@@ -37,6 +39,21 @@ struct StepRow {
     plain: u64,
     // how many may follow those that the observer has, the plain ones included
     left: u64,
+}
+
+impl StepRow {
+    // The row after a step that was handed out, with the plain ones before it.
+    #[inline(always)]
+    fn hand(&mut self)
+        requires within { self.old.plain < self.old.left }
+        requires range { self.old.told + self.old.left < 2 ^ 64 }
+        ensures { self.new ≡ handed self.old }
+    {
+        let steps = self.plain + 1;
+        self.told += steps;
+        self.plain = 0;
+        self.left -= steps;
+    }
 }
 
 // Hands out a step that also accessed memory, called or returned, with the plain ones before it.
@@ -89,11 +106,14 @@ fn run_page<W: Observer>(
     memory: &GuestMemory,
     held: &Reservations,
     tid: Tid,
-    page: &CodePage,
+    first: Addr,
+    code: &[Instr],
     row: &mut StepRow,
     observer: &mut W,
 ) -> Result<Paused, AllocError>
-    requires page { IsCodeOf (memory_of memory.now) page.now }
+    requires first { first % 4096 ≡ 0 }
+    requires whole { length code.now ≡ 1024 }
+    requires code { IsCodeFrom (memory_of memory.now) first code.now }
     requires run { MayRun W.stands (W.fits observer.old) tid row.old
         (exec_state_of (with_pc pc.old cpu.old) memory.now held.now) observer.old }
     requires range { row.old.told + row.old.left < 2 ^ 64 }
@@ -106,20 +126,52 @@ fn run_page<W: Observer>(
     ensures same { W.fits observer.new ≡ W.fits observer.old }
 {
     'steps: while row.plain < row.left {
-        let Some(instruction) = page.find(*pc) else {
+        let Some(instruction) = find_in(first, code, *pc) else {
             return Ok(Paused::Elsewhere);
         };
-        let advanced = match carry_out_reading(pc, cpu, memory, &instruction) {
-            Reading::Went { advanced } => advanced,
-            Reading::MayWrite => return Ok(Paused::MayWrite { instruction }),
-            Reading::Stops => return Ok(Paused::Stops),
-        };
-        match advanced {
-            Advanced::Ran => row.plain += 1,
-            acted => match hand_step(row, tid, acted, observer) {
-                Ok(Observed::Taken) => {}
-                Ok(Observed::Refused) => return Ok(Paused::Refused),
-                Err(e) => return Err(e),
+        match instruction {
+            Instr::Load {
+                kind,
+                rd,
+                base,
+                offset,
+            } => {
+                let made = make_load(
+                    pc,
+                    cpu,
+                    memory,
+                    tid,
+                    kind,
+                    rd,
+                    base,
+                    offset,
+                    row.plain + 1,
+                    observer,
+                );
+                match made {
+                    Ok(Made::Taken) => row.hand(),
+                    Ok(Made::Refused) => {
+                        row.hand();
+                        return Ok(Paused::Refused);
+                    }
+                    Ok(Made::Stops) => return Ok(Paused::Stops),
+                    Err(e) => {
+                        row.hand();
+                        return Err(e);
+                    }
+                }
+            }
+            _ => match carry_out_reading(pc, cpu, memory, &instruction) {
+                Reading::Went { advanced } => match advanced {
+                    Advanced::Ran => row.plain += 1,
+                    acted => match hand_step(row, tid, acted, observer) {
+                        Ok(Observed::Taken) => {}
+                        Ok(Observed::Refused) => return Ok(Paused::Refused),
+                        Err(e) => return Err(e),
+                    },
+                },
+                Reading::MayWrite => return Ok(Paused::MayWrite { instruction }),
+                Reading::Stops => return Ok(Paused::Stops),
             },
         }
     }
@@ -160,8 +212,11 @@ fn run_page_at<W: Observer>(
     let Some(page) = memory.code_page(place) else {
         return Ok(Paused::Elsewhere);
     };
+    let (first, code) = page.parts();
     let mut pc = cpu.pc;
-    let answer = run_page(&mut pc, cpu, memory, held, tid, page, row, observer);
+    let answer = run_page(
+        &mut pc, cpu, memory, held, tid, first, code, row, observer,
+    );
     cpu.pc = pc;
     answer
 }
@@ -223,10 +278,46 @@ fn run_further<W: Observer>(
         Ok(Paused::Done) => Ok(Further::Went),
         Ok(Paused::Refused) => Ok(Further::Refused),
         Ok(Paused::Stops) => Ok(Further::Stopped),
-        Ok(Paused::MayWrite { instruction }) => {
-            let next = carry_out(cpu, memory, held, tid, instruction);
-            count_next(row, tid, next, observer)
-        }
+        Ok(Paused::MayWrite { instruction }) => match instruction {
+            Instr::Store {
+                kind,
+                value,
+                base,
+                offset,
+            } => {
+                let made = make_store(
+                    cpu,
+                    memory,
+                    held,
+                    tid,
+                    kind,
+                    value,
+                    base,
+                    offset,
+                    row.plain + 1,
+                    observer,
+                );
+                match made {
+                    Ok(Made::Taken) => {
+                        row.hand();
+                        Ok(Further::Went)
+                    }
+                    Ok(Made::Refused) => {
+                        row.hand();
+                        Ok(Further::Refused)
+                    }
+                    Ok(Made::Stops) => Ok(Further::Stopped),
+                    Err(e) => {
+                        row.hand();
+                        Err(e)
+                    }
+                }
+            }
+            _ => {
+                let next = carry_out(cpu, memory, held, tid, instruction);
+                count_next(row, tid, next, observer)
+            }
+        },
         Ok(Paused::Elsewhere) => match carry_out_next(cpu, memory, held, tid, place) {
             Ok(next) => count_next(row, tid, next, observer),
             Err(e) => Err(e),

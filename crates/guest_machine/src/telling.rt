@@ -41,17 +41,6 @@ pub(crate) fn told(instruction: &Instr, access: Access, target: Addr, back: Addr
     }
 }
 
-// Hands out an event.
-#[inline(always)]
-fn hand_one<W: Observer>(e: Event, observer: &mut W) -> Result<Observed, AllocError>
-    requires { MayTakeAll W.stands (W.fits observer.old) observer.old (e ∷ []) }
-    ensures observed { IfOk result (ObservesAll W.stands (W.fits observer.old)
-        (e ∷ []) observer.old observer.new) }
-    ensures same { W.fits observer.new ≡ W.fits observer.old }
-{
-    observer.observe(e)
-}
-
 // Hands out two events.
 #[inline(always)]
 fn hand_two<W: Observer>(
@@ -103,8 +92,7 @@ fn observe_one<W: Observer>(
         (steps_of tid steps ++ e ∷ []) observer.old observer.new) }
     ensures same { W.fits observer.new ≡ W.fits observer.old }
 {
-    observer.observe_steps(tid, steps)?;
-    hand_one(e, observer)
+    observer.observe_after(tid, steps, e)
 }
 
 // Hands out `steps` steps of a thread, and two events of the last.

@@ -6,12 +6,13 @@ use Rattle.std.proofs.lemmas.Bool.Decides.{nat_tests}
 use Rattle.std.proofs.lemmas.List.{get_or-set_other, get_or-set_same, get_or_past, get_or-replicate, length-replicate, get_or_append_left, get_or_push}
 use Rattle.guest_memory.specs.declared.refusal.Permission.TheVariants as permission
 use Rattle.guest_memory.specs.Memory.{Memory, loaded, with_bytes}
-use Rattle.guest_memory.specs.Code.{IsCodeOf, IsInstructionAt}
+use Rattle.guest_memory.specs.Code.{IsCodeOf, IsInstructionAt, known_of}
 use Rattle.guest_memory.specs.Private.HeldCode.{instruction_of}
 use Rattle.guest_memory.specs.Private.CodePages.{AreForgotten, IsIndex, known_in, no_code, page_at}
 use Rattle.guest_memory.proofs.KeptCode.{Holds, fetched, holds_after, is_instruction, loads_stay}
 use Rattle.rv_isa.specs.Table.{decoded}
 use Rattle.rv_isa.specs.declared.instruction.Instr.{Instr}
+use Rattle.rv_isa.specs.declared.instruction.Instr.TheVariants.{Lui, Auipc, Jal, Jalr, Branch, Load, Store, Immediate, Register, Atomic, Fence, FenceI, Ecall, Ebreak}
 
 abbrev pub Pages : Type 0
 Pages = List (ℕ × List (Option Instr))
@@ -74,29 +75,46 @@ known_there : (places : List ℕ) (pages : Pages) (place : ℕ) (p : Page) (word
 known_there places pages place p word differs =
     ap (λ (q : Page). get_or q.1 (word % 1024) None) (get_or-set_other pages place (get_or places (word / 1024) 0) p no_code differs)
 
--- one more instruction
+-- one more instruction, or none of that word
 pub holds_learned : (places : List ℕ) (pages : Pages) (m : Memory) → IsIndex places pages → Holds (known_in places pages) m →
-    (at word : ℕ) (i : Instr) (place : ℕ) → at % 4 ≡ 0 → 0 < place → place ≡ get_or places (at / 4096) 0 → place < length pages →
-    at / 4 % 1024 < length (page_at pages place).1 → loaded m permission.Execute at 4 ≡ Ok word → decoded word ≡ Some i →
-    Holds (known_in places (set pages place ((page_at pages place).0, set (page_at pages place).1 (at / 4 % 1024) (Some i)))) m
-holds_learned places pages m index holds at word i place even some is inside low loads stands w j known =
+    (at word : ℕ) (o : Option Instr) (place : ℕ) → at % 4 ≡ 0 → 0 < place → place ≡ get_or places (at / 4096) 0 → place < length pages →
+    at / 4 % 1024 < length (page_at pages place).1 → loaded m permission.Execute at 4 ≡ Ok word → ((i : Instr) → o ≡ Some i → decoded word ≡ Some i) →
+    Holds (known_in places (set pages place ((page_at pages place).0, set (page_at pages place).1 (at / 4 % 1024) o))) m
+holds_learned places pages m index holds at word o place even some is inside low loads stands w j known =
     let code : List (Option Instr) = (page_at pages place).1 in
-    let p : Page = ((page_at pages place).0, set code (at / 4 % 1024) (Some i)) in
+    let p : Page = ((page_at pages place).0, set code (at / 4 % 1024) o) in
     elim (cases_eq (get_or places (w / 1024) 0) place) [
       | inl here ↦ elim (cases_eq (w % 1024) (at / 4 % 1024)) [
         | inl same ↦
             let page : w / 1024 ≡ at / 4096 = same_page places pages index (w / 1024) (at / 4096) (omega (arith, here, some)) (here ∙ is) in
             let whole : 4 * w ≡ at = omega (arith, page, same, even) in
-            let got : known_in places (set pages place p) w ≡ Some i =
-            known_here places pages place p w inside here ∙ ap (λ k. get_or (set code (at / 4 % 1024) (Some i)) k None) same ∙ get_or-set_same code (at / 4 % 1024) (Some i) None low in
-            ap (fetched m) whole ∙ ap instruction_of loads ∙ stands ∙ sym got ∙ known
+            let got : known_in places (set pages place p) w ≡ o =
+            known_here places pages place p w inside here ∙ ap (λ k. get_or (set code (at / 4 % 1024) o) k None) same ∙ get_or-set_same code (at / 4 % 1024) o None low in
+            ap (fetched m) whole ∙ ap instruction_of loads ∙ stands j (sym got ∙ known)
         | inr other ↦
             holds w j
-            (ap (λ k. get_or (page_at pages k).1 (w % 1024) None) here ∙ sym (get_or-set_other code (at / 4 % 1024) (w % 1024) (Some i) None other)
+            (ap (λ k. get_or (page_at pages k).1 (w % 1024) None) here ∙ sym (get_or-set_other code (at / 4 % 1024) (w % 1024) o None other)
             ∙ sym (known_here places pages place p w inside here) ∙ known)
       ]
       | inr there ↦ holds w j (sym (known_there places pages place p w there) ∙ known)
     ]
+
+-- what an instruction of the page says is that instruction
+pub known_some : (i j : Instr) → known_of i ≡ Some j → Some i ≡ Some j
+known_some (Lui rd imm) j is = is
+known_some (Auipc rd imm) j is = is
+known_some (Jal rd offset) j is = is
+known_some (Jalr rd base offset) j is = is
+known_some (Branch test left right offset) j is = is
+known_some (Load kind rd base offset) j is = is
+known_some (Store kind from base offset) j is = is
+known_some (Immediate op rd left imm) j is = is
+known_some (Register op rd left right) j is = is
+known_some (Atomic op rd base from order) j is = is
+known_some Fence j is = is
+known_some FenceI j is = is
+known_some Ecall j is = is
+known_some Ebreak j is = absurd (cc)
 
 -- ---- bytes of a page are written
 apart : (w at n : ℕ) → w / 1024 ≢ at / 4096 → at % 4096 + n ≤ 4096 → (4 * w + 4 ≤ at) ⊎ (at + n ≤ 4 * w)

@@ -12,7 +12,7 @@ use guest_words::limits::PAGES;
 use rv_isa::decode;
 use std::alloc::{AllocError, Global};
 
-/// The code of the pages that ran, decoded, and an index of it: 12 KiB for each page with code, of which there are no more
+/// The code of the pages that ran, decoded, and an index of it: 8 KiB for each page with code, of which there are no more
 /// than can be mapped, and 2 bytes for each number up to the greatest of such a page. The memory that the code is of is no
 /// part of it (specs/Private/HeldCode.antt).
 #[derive(Drop)]
@@ -82,6 +82,7 @@ impl CodeCache {
 
     // The place of a page's code, which is made where there is none.
     fn place_for(&mut self, alloc: Global, page: u32) -> Result<usize, AllocError>
+        requires { page < 2 ^ 20 }
         ensures known { (word : ℕ) → known_in self.new.places.items self.new.pages.items word
             ≡ known_in self.old.places.items self.old.pages.items word }
         ensures some { IfOk result (λ place. 0 < place) }

@@ -1,10 +1,11 @@
 //! The code of one page of the guest, decoded.
-ghost use Rattle.std.specs.Prelude.{◌≡◌, ◌<◌, ◌≤◌, ◌%◌, ℕ, List, Option, None, Some, length, replicate, slice_set, IfOk, IfSome};
-ghost use Rattle.guest_memory.specs.Code.{IsCodeOf, IsInstructionAt};
+ghost use Rattle.std.specs.Prelude.{◌≡◌, ◌<◌, ◌≤◌, ◌%◌, ◌*◌, ◌^◌, ℕ, List, Option, None, Some, length, map, replicate, slice_set, IfOk, IfSome};
+ghost use Rattle.guest_memory.specs.Code.{IsCodeFrom, IsCodeOf, IsInstructionAt, known_of};
 ghost use Rattle.guest_memory.specs.Memory.{Memory};
 ghost use Rattle.guest_memory.specs.Private.CodePages.{AreForgotten};
 ghost use Rattle.rv_isa.specs.declared.instruction.Instr.{Instr};
 
+use crate::directory::PAGE_SIZE;
 use guest_words::Addr;
 use rv_isa::Instr;
 use std::alloc::{AllocError, Global};
@@ -13,31 +14,61 @@ use std::marker::Model;
 /// How many words a page has.
 pub const PAGE_WORDS: usize = 1024;
 
-/// The code of a page: the page's number, and the instruction of each of its words, where it is known. It takes 12 KiB.
+/// The code of a page: the page's number, and the instruction of each of its words, where it is known. It takes 8 KiB.
 #[derive(Drop)]
 pub struct CodePage {
     number: u32,
-    instructions: Vec<Option<Instr>>,
+    // EBREAK where none is known: it faults, so that nothing is gained by knowing it
+    instructions: Vec<Instr>,
 }
 
 impl Model for CodePage {
-    ghost use Rattle.std.specs.Prelude.{◌≡◌, ℕ, List, Option, length};
+    ghost use Rattle.std.specs.Prelude.{◌≡◌, ◌<◌, ◌^◌, ℕ, List, Option, length, map};
+    ghost use Rattle.guest_memory.specs.Code.{known_of};
     ghost use Rattle.rv_isa.specs.declared.instruction.Instr.{Instr};
 
     ghost Value = { ℕ × List (Option Instr) };
 
-    ghost view = { λ p. (p.number, p.instructions.items) };
+    ghost view = { λ p. (p.number, map known_of p.instructions.items) };
 
-    ghost invariant = { λ p. length p.instructions.items ≡ 1024 };
+    ghost invariant = { λ p. (p.number < 2 ^ 20) × (length p.instructions.items ≡ 1024) };
+}
+
+// What an instruction that stands in the code of a page says: EBREAK, that none is known.
+#[inline(always)]
+fn known(i: Instr) -> Option<Instr>
+    ensures { result ≡ known_of i }
+{
+    match i {
+        Instr::Ebreak => None,
+        _ => Some(i),
+    }
+}
+
+/// The instruction at an address, where it lies in the page that begins at `first`, and is known: a page of code lends both its
+/// first address and its instructions.
+#[inline(always)]
+pub fn find_in(first: Addr, instructions: &[Instr], at: Addr) -> Option<Instr>
+    requires even { at % 4 ≡ 0 }
+    requires first { first % 4096 ≡ 0 }
+    requires whole { length instructions.now ≡ 1024 }
+    ensures { (m : Memory) → IsCodeFrom m first instructions.now → IfSome result (IsInstructionAt m at) }
+{
+    let offset = at.wrapping_sub(first);
+    if offset as usize >= PAGE_SIZE {
+        return None;
+    }
+    known(instructions[(offset >> 2) as usize])
 }
 
 impl CodePage {
     /// No instruction of the page is known.
     pub(crate) fn new(alloc: Global, number: u32) -> Result<CodePage, AllocError>
+        requires { number < 2 ^ 20 }
         ensures { IfOk result (λ p. p ≡ (number, replicate 1024 None)) }
     {
         let mut instructions = Vec::new(alloc);
-        instructions.resize(PAGE_WORDS, None)?;
+        instructions.resize(PAGE_WORDS, Instr::Ebreak)?;
         Ok(CodePage {
             number,
             instructions,
@@ -51,25 +82,33 @@ impl CodePage {
         self.number
     }
 
+    /// Where the page begins, and the instructions of its words.
+    #[inline(always)]
+    pub fn parts(&self) -> (Addr, &[Instr])
+        ensures first { result.0 % 4096 ≡ 0 }
+        ensures whole { length result.1.now ≡ 1024 }
+        ensures code { (m : Memory) → IsCodeOf m self.now → IsCodeFrom m result.0 result.1.now }
+    {
+        (self.number << 12, self.instructions.as_slice())
+    }
+
     /// The instruction at an address, where it lies in the page and is known.
     #[inline(always)]
     pub fn find(&self, at: Addr) -> Option<Instr>
         requires { at % 4 ≡ 0 }
         ensures { (m : Memory) → IsCodeOf m self.now → IfSome result (IsInstructionAt m at) }
     {
-        if self.number != at >> 12 {
-            return None;
-        }
-        self.instructions[(at >> 2) as usize % PAGE_WORDS]
+        let (first, instructions) = self.parts();
+        find_in(first, instructions, at)
     }
 
-    /// Caches the instruction of a word.
+    /// Caches the instruction of a word, where it can be known.
     pub(crate) fn learn(&mut self, word: usize, instruction: Instr)
         requires { word < 1024 }
-        ensures page { self.new ≡ (self.old.0, slice_set self.old.1 word (Some instruction)) }
+        ensures page { self.new ≡ (self.old.0, slice_set self.old.1 word (known_of instruction)) }
         ensures whole { length self.old.1 ≡ 1024 }
     {
-        self.instructions[word] = Some(instruction);
+        self.instructions[word] = instruction;
     }
 
     /// Forgets the words from the first up to the end.
@@ -86,12 +125,13 @@ impl CodePage {
 }
 
 // Forgets the words from the first up to the end.
-fn forget_words(words: &mut [Option<Instr>], first: usize, end: usize)
+fn forget_words(words: &mut [Instr], first: usize, end: usize)
     requires order { first ≤ end }
     requires inside { end ≤ length words.old }
-    ensures { AreForgotten first end words.old words.new }
+    ensures length { length words.new ≡ length words.old }
+    ensures words { AreForgotten first end (map known_of words.old) (map known_of words.new) }
 {
     for word in first..end {
-        words[word] = None;
+        words[word] = Instr::Ebreak;
     }
 }

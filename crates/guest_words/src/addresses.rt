@@ -48,6 +48,9 @@ pub fn words_over(first: Addr, bytes: u32) -> (Word, u32)
     ensures least { IsLeastRange first bytes result.0 result.1 }
     ensures range { result.0 + result.1 ≤ 2 ^ 30 }
 {
+    if bytes <= 4 - first % 4 {
+        return (Word::of(first), 1); // as most often
+    }
     let last = first + (bytes - 1);
     (Word::of(first), last / 4 - first / 4 + 1)
 }

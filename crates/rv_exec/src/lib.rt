@@ -16,4 +16,6 @@ mod outcome;
 pub use cpu::Cpu;
 pub use instruction::{execute, execute_reading};
 pub use laws::every_instruction;
+pub use loads_and_stores::{load_words, store_words};
+pub use operations::add_offset;
 pub use outcome::{Access, Outcome};

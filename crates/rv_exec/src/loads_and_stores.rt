@@ -1,5 +1,5 @@
 //! Loads and stores.
-ghost use Rattle.std.specs.Prelude.{◌≡◌, ◌<◌, ◌≤◌, ◌+◌, ◌*◌, ◌/◌, ◌^◌, IfOk, IfErr, Ok, Err, Some, if◌then◌else◌};
+ghost use Rattle.std.specs.Prelude.{◌≡◌, ◌<◌, ◌≤◌, ◌+◌, ◌*◌, ◌/◌, ◌%◌, ◌^◌, ℕ, IfOk, IfErr, Ok, Err, Some, if◌then◌else◌};
 ghost use Rattle.rv_isa.specs.Fields.{twos_complement};
 ghost use Rattle.guest_memory.specs.Guest.{memory_of};
 ghost use Rattle.guest_memory.specs.Memory.{byte_count, number_at, with_bytes};
@@ -8,14 +8,16 @@ ghost use Rattle.guest_memory.specs.ReservedBy.{reserved_by};
 ghost use Rattle.guest_words.specs.Words.{word_count};
 ghost use Rattle.guest_words.specs.declared.endings.FaultKind.TheVariants as fault;
 ghost use Rattle.rv_exec.specs.Accesses.{can_read, can_write, load_size, extended, low_bytes, store_size};
-ghost use Rattle.rv_exec.specs.Effects.{exec_state_of, loads, stores, written};
+ghost use Rattle.rv_exec.specs.Effects.{advanced, exec_state_of, loads, stores, written};
 ghost use Rattle.rv_exec.specs.Operations.{low_32_bits};
-ghost use Rattle.rv_exec.specs.Registers.{with_pc};
+ghost use Rattle.rv_exec.specs.Registers.{Registers, with_pc};
+ghost use Rattle.rv_exec.specs.declared.outcome.Access.TheVariants as access;
+ghost use Rattle.rv_exec.specs.declared.outcome.Outcome.TheVariants.{Fault, Went};
 
 use crate::bytes::{read, read_within, words, write};
 use crate::{Access, Cpu, Outcome};
 use guest_memory::{GuestMemory, Reservations, Size};
-use guest_words::{Addr, FaultKind, Tid};
+use guest_words::{Addr, FaultKind, Tid, Word};
 use rv_isa::{LoadKind, Reg, StoreKind};
 
 // How many bytes a load reads.
@@ -117,6 +119,26 @@ fn load_number(
         LoadKind::Lbu => load_as(cpu, memory, LoadKind::Lbu, rd, at),
         LoadKind::Lhu => load_as(cpu, memory, LoadKind::Lhu, rd, at),
     }
+}
+
+/// A load but for the program counter: the words that it reads. Its code is inlined in that of the caller, and short where the
+/// caller names the kind.
+#[inline(always)]
+pub fn load_words(
+    cpu: &mut Cpu,
+    memory: &GuestMemory,
+    kind: LoadKind,
+    rd: Reg,
+    at: Addr,
+) -> Result<(Word, u32), FaultKind>
+    ensures went { (pc : ℕ) → IfOk result (λ words.
+        (Went (access.Read words.0 words.1), with_pc ((pc + 4) % 2 ^ 32) cpu.new)
+        ≡ loads kind rd at (memory_of memory.now) (with_pc pc cpu.old)) }
+    ensures fault { (pc : ℕ) → IfErr result (λ error. (Fault error, with_pc pc cpu.new)
+        ≡ loads kind rd at (memory_of memory.now) (with_pc pc cpu.old)) }
+{
+    load_as(cpu, memory, kind, rd, at)?;
+    Ok(words(at, load_size(kind)))
 }
 
 // The same, whose code is made for the kind that a call names. It calls nothing where the bytes lie within a page that can be
@@ -224,4 +246,23 @@ fn store_number(
         Some(_) => Ok(()),
         None => Err(FaultKind::Store),
     }
+}
+
+/// A store but for the program counter: the words that it writes. Its code is inlined in that of the caller, as `load_words` is.
+#[inline(always)]
+pub fn store_words(
+    memory: &mut GuestMemory,
+    held: &mut Reservations,
+    tid: Tid,
+    kind: StoreKind,
+    at: Addr,
+    n: u32,
+) -> Result<(Word, u32), FaultKind>
+    ensures went { (r : Registers) → IfOk result (λ words.
+        (Went (access.Write words.0 words.1), exec_state_of (advanced r) memory.new held.new)
+        ≡ stores tid kind at n (exec_state_of r memory.old held.old)) }
+    ensures fault { (r : Registers) → IfErr result (λ error. (Fault error, exec_state_of r memory.new held.new)
+        ≡ stores tid kind at n (exec_state_of r memory.old held.old)) }
+{
+    write(memory, held, tid, at, store_size(kind), n).ok_or(FaultKind::Store)
 }

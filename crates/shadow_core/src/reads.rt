@@ -245,9 +245,44 @@ pub(crate) fn read_at<S: Lanes>(
         (stamp_at marks.now.pages) (range_with_len w 1)) }
 {
     let write = writes.get(w);
+    if access.stamp.number() < write.number() {
+        read_foreign(threads, tid, w, access, write, marks, stamp)
+    } else {
+        read_found(threads, tid, w, access, write, marks, stamp)
+    }
+}
+
+// The same, by the stamp of the latest write too.
+#[inline(always)]
+fn read_found<S: Lanes>(
+    threads: &mut Threads<S>,
+    tid: Tid,
+    w: Word,
+    access: Access<S>,
+    write: S,
+    marks: &Shadow<u8>,
+    stamp: S,
+) -> Foreign
+{
     let found = foreign_word(access.stamp, write, marks, w);
     read_stamped(threads, tid, w, access, write, stamp);
     found
+}
+
+// The same, where another thread or the kernel may have written the word since.
+#[cold]
+#[inline(never)]
+fn read_foreign<S: Lanes>(
+    threads: &mut Threads<S>,
+    tid: Tid,
+    w: Word,
+    access: Access<S>,
+    write: S,
+    marks: &Shadow<u8>,
+    stamp: S,
+) -> Foreign
+{
+    read_found(threads, tid, w, access, write, marks, stamp)
 }
 
 // A read of one word, with what it counts.

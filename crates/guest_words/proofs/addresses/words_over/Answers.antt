@@ -9,5 +9,8 @@ least_range first bytes word count some is counted = record {
   held = λ w low high. (max first (4 * w), omega arith, omega arith, omega arith);
 }
 
+pub returns-then-bytes-first-clause-least : goal.returns-then-bytes-first-clause-least
+returns-then-bytes-first-clause-least c = least_range c.args.first c.args.bytes c.of.result _ c.requires.some c.of.ensures (omega arith)
+
 pub returns-clause-least : goal.returns-clause-least
-returns-clause-least c = least_range c.args.first c.args.bytes c.of.result _ c.requires.some c.of.ensures (omega arith)
+returns-clause-least c = least_range c.args.first c.args.bytes c.of-2.result _ c.requires.some c.of-2.ensures (omega arith)
