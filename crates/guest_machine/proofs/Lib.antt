@@ -16,3 +16,4 @@ pub mod Ranges
 pub mod Handed
 pub mod Carried
 pub mod RowOfSteps
+pub mod MadeSteps

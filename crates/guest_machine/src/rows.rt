@@ -8,6 +8,7 @@ ghost use Rattle.rv_exec.specs.Registers.{with_pc};
 ghost use Rattle.trace_model.specs.declared.observer.Observed.TheVariants.{Taken};
 ghost use Rattle.trace_model.specs.Observing.{MayTakeAll, ObservesAll};
 ghost use Rattle.guest_machine.specs.Private.Carrying.{Carries, IsStateOf, MayCarry, ObservesFrom};
+ghost use Rattle.guest_machine.specs.Private.Making.{made_answer, made_row};
 ghost use Rattle.guest_machine.specs.Private.Rows.{Counts, IsPaused, MayCount, MayRun, RunsOn, answer_of, further_of, handed};
 ghost use Rattle.guest_machine.specs.Machine.{MachineState};
 ghost use Rattle.guest_machine.specs.Told.{IsInstruction, done_by, steps_of};
@@ -75,11 +76,7 @@ fn hand_step<W: Observer>(
     ensures same { W.fits observer.new ≡ W.fits observer.old }
 {
     let steps = row.plain + 1;
-    *row = StepRow {
-        told: row.told + steps,
-        plain: 0,
-        left: row.left - steps,
-    };
+    row.hand();
     observe_told(tid, steps, advanced, observer)
 }
 
@@ -95,6 +92,42 @@ enum Paused {
     Elsewhere,
     // The next instruction is ECALL or faults.
     Stops,
+}
+
+// Whether a row of steps goes on.
+enum Further {
+    Went,
+    // The observer refused an event of the last step.
+    Refused,
+    // The next instruction is not known, or can't go on.
+    Stopped,
+}
+
+// Counts the next step of a row, by what became of it.
+#[inline(always)]
+fn count_made(row: &mut StepRow, made: Result<Made, AllocError>) -> Result<Further, AllocError>
+    requires within { row.old.plain < row.old.left }
+    requires range { row.old.told + row.old.left < 2 ^ 64 }
+    ensures row { row.new ≡ made_row row.old made }
+    ensures further { further_of result ≡ made_answer made }
+    ensures grows { IfOk result (λ further. further ≡ Further.Went
+        → row.old.told + row.old.plain < row.new.told + row.new.plain) }
+{
+    match made {
+        Ok(Made::Taken) => {
+            row.hand();
+            Ok(Further::Went)
+        }
+        Ok(Made::Refused) => {
+            row.hand();
+            Ok(Further::Refused)
+        }
+        Ok(Made::Stops) => Ok(Further::Stopped),
+        Err(e) => {
+            row.hand();
+            Err(e)
+        }
+    }
 }
 
 // Makes the steps of a row that lie in a page of code, as long as they can't write. The thread's program counter is `pc`, apart
@@ -136,29 +169,15 @@ fn run_page<W: Observer>(
                 base,
                 offset,
             } => {
+                let steps = row.plain + 1;
                 let made = make_load(
-                    pc,
-                    cpu,
-                    memory,
-                    tid,
-                    kind,
-                    rd,
-                    base,
-                    offset,
-                    row.plain + 1,
-                    observer,
+                    pc, cpu, memory, tid, kind, rd, base, offset, steps, observer,
                 );
-                match made {
-                    Ok(Made::Taken) => row.hand(),
-                    Ok(Made::Refused) => {
-                        row.hand();
-                        return Ok(Paused::Refused);
-                    }
-                    Ok(Made::Stops) => return Ok(Paused::Stops),
-                    Err(e) => {
-                        row.hand();
-                        return Err(e);
-                    }
+                match count_made(row, made) {
+                    Ok(Further::Went) => {}
+                    Ok(Further::Refused) => return Ok(Paused::Refused),
+                    Ok(Further::Stopped) => return Ok(Paused::Stops),
+                    Err(e) => return Err(e),
                 }
             }
             _ => match carry_out_reading(pc, cpu, memory, &instruction) {
@@ -176,15 +195,6 @@ fn run_page<W: Observer>(
         }
     }
     Ok(Paused::Done)
-}
-
-// Whether a row of steps goes on.
-enum Further {
-    Went,
-    // The observer refused an event of the last step.
-    Refused,
-    // The next instruction is not known, or can't go on.
-    Stopped,
 }
 
 // Makes the steps of a row that lie in the page of code at the place, as long as they can't write.
@@ -285,33 +295,11 @@ fn run_further<W: Observer>(
                 base,
                 offset,
             } => {
+                let steps = row.plain + 1;
                 let made = make_store(
-                    cpu,
-                    memory,
-                    held,
-                    tid,
-                    kind,
-                    value,
-                    base,
-                    offset,
-                    row.plain + 1,
-                    observer,
+                    cpu, memory, held, tid, kind, value, base, offset, steps, observer,
                 );
-                match made {
-                    Ok(Made::Taken) => {
-                        row.hand();
-                        Ok(Further::Went)
-                    }
-                    Ok(Made::Refused) => {
-                        row.hand();
-                        Ok(Further::Refused)
-                    }
-                    Ok(Made::Stops) => Ok(Further::Stopped),
-                    Err(e) => {
-                        row.hand();
-                        Err(e)
-                    }
-                }
+                count_made(row, made)
             }
             _ => {
                 let next = carry_out(cpu, memory, held, tid, instruction);
