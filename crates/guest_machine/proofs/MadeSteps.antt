@@ -1,5 +1,5 @@
 -- An instruction that was carried out and told to the observer at once.
-use Rattle.std.proofs.Common.{◌≡◌, ℕ, ℤ, ◌+◌, ◌<◌, ◌%◌, ◌^◌, Bool, List, [], ◌∷◌, ◌++◌, Result, Ok, Err, IfOk, IfErr, ap, refl, sym, subst, ◌∙◌, append-nil}
+use Rattle.std.proofs.Common.{◌≡◌, ℕ, ℤ, ◌+◌, ◌<◌, ◌≤◌, ◌%◌, ◌^◌, Bool, List, [], ◌∷◌, ◌++◌, Result, Ok, Err, IfOk, IfErr, ap, refl, sym, subst, ◌∙◌, append-nil, arith}
 use Rattle.std.specs.declared.alloc.AllocError.{AllocError}
 use Rattle.guest_memory.specs.Code.{IsInstructionAt}
 use Rattle.guest_memory.specs.Guest.{memory_of}
@@ -29,11 +29,12 @@ use Rattle.trace_model.specs.Observing.{MayTakeAfter, MayTakeAll, ObservesAfter,
 use Rattle.guest_machine.specs.declared.stepped.Advanced.{Advanced}
 use Rattle.guest_machine.specs.declared.stepped.Advanced.TheVariants.{Accessed}
 use Rattle.guest_machine.specs.declared.rows.StepRow.{StepRow}
+use Rattle.guest_machine.specs.declared.rows.Further.{Further}
 use Rattle.guest_machine.specs.declared.making.Made.{Made}
 use Rattle.guest_machine.specs.declared.making.Made.TheVariants as made
 use Rattle.guest_machine.specs.Private.Carrying.{IsStepOf}
 use Rattle.guest_machine.specs.Private.Making.{Makes, MakesLoad, MakesStore, MayLoad, MayMake, MayStore, behind, made_answer, made_of, made_row, stored}
-use Rattle.guest_machine.specs.Private.Rows.{HasRun, MayRun, Runs, RunsOn, handed}
+use Rattle.guest_machine.specs.Private.Rows.{HasRun, MayRun, Runs, RunsOn, further_of, handed}
 use Rattle.guest_machine.specs.Step.{access_events, jump_events}
 use Rattle.guest_machine.specs.Told.{done_by, steps_of}
 use Rattle.guest_machine.proofs.Carried.{known_is, state_kept, steps_to}
@@ -175,3 +176,30 @@ module _ {O : Type 0} (Stands : O → List Event → Type 0) (fits : List Event 
       (state_kept tid (Store kind from base offset) here there (Fault error)
       (faults r ∙ ap (λ a. stores tid kind a n here) at_is ∙ ap (λ k. stores tid kind (add_offset (value r base) offset) k here) n_is)
       (λ accessed is. absurd (let no : Went accessed ≡ Fault error = sym is in cc)))
+
+-- ---- a row whose next step was made
+pub made_whole : (row new : StepRow) (answer : Result Made AllocError) → new ≡ made_row row answer → row.plain < row.left → new.told + new.left ≡ row.told + row.left
+made_whole row new (Ok made.Taken) is low = subst (λ (r : StepRow). r.told + r.left ≡ row.told + row.left) (sym is) (omega (arith, low))
+made_whole row new (Ok made.Refused) is low = subst (λ (r : StepRow). r.told + r.left ≡ row.told + row.left) (sym is) (omega (arith, low))
+made_whole row new (Ok made.Stops) is low = ap (λ (r : StepRow). r.told + r.left) is
+made_whole row new (Err e) is low = subst (λ (r : StepRow). r.told + r.left ≡ row.told + row.left) (sym is) (omega (arith, low))
+
+pub made_grows : (row new : StepRow) (answer : Result Made AllocError) → new ≡ made_row row answer → row.told + row.plain ≤ new.told + new.plain
+made_grows row new (Ok made.Taken) is = subst (λ (r : StepRow). row.told + row.plain ≤ r.told + r.plain) (sym is) (omega arith)
+made_grows row new (Ok made.Refused) is = subst (λ (r : StepRow). row.told + row.plain ≤ r.told + r.plain) (sym is) (omega arith)
+made_grows row new (Ok made.Stops) is = subst (λ (r : StepRow). row.told + row.plain ≤ r.told + r.plain) (sym is) (omega arith)
+made_grows row new (Err e) is = subst (λ (r : StepRow). row.told + row.plain ≤ r.told + r.plain) (sym is) (omega arith)
+
+module _ {O : Type 0} (Stands : O → List Event → Type 0) (fits : List Event → Bool) (tid : ℕ) (row : StepRow) (low : row.plain < row.left)
+    (here : ExecState) (now : O) where
+  -- it may be made
+  pub may_make : (first : ExecState) (old : O) (most : ℕ) → HasRun Stands fits tid first old most row here now → MayMake Stands fits tid (row.plain + 1) here now
+  may_make first old most run = record { row = row; low = low; count = refl; run = record { first = first; old = old; most = most; run = run } }
+
+  -- and is counted
+  pub counted : (there : ExecState) (later : O) (answer : Result Made AllocError) → Makes Stands fits tid (row.plain + 1) here now there later answer
+      → (new : StepRow) → new ≡ made_row row answer → (result : Result Further AllocError) → further_of result ≡ made_answer answer
+      → RunsOn Stands fits tid row here now new there later (further_of result)
+  counted there later answer makes new is result same first old most run =
+      subst (λ (r : StepRow). Runs Stands fits tid first old most r there later (further_of result)) (sym is)
+      (subst (Runs Stands fits tid first old most (made_row row answer) there later) (sym same) (makes row low refl first old most run))

@@ -263,6 +263,19 @@ fn read_found<S: Lanes>(
     marks: &Shadow<u8>,
     stamp: S,
 ) -> Foreign
+    requires lives { is_some (value_of threads.old.threads tid) ≡ true }
+    requires some { 1 ≤ length (frames_of threads.old.threads tid) }
+    requires place { HasPlace (pages_of threads.old.threads tid) w access.place }
+    requires sums { AreWithin (2 ^ 62 + 2 ^ 31) (frames_of threads.old.threads tid) }
+    requires own { S.number_of access.stamp ≡ stamp_at (pages_of threads.old.threads tid) w }
+    ensures read { (writes : ℕ → ℕ) → S.number_of write ≡ writes w
+        → IsRead threads.old threads.new tid writes (stamp_at marks.now.pages) w 1 (S.number_of stamp) }
+    ensures thread { (writes : ℕ → ℕ) → S.number_of write ≡ writes w
+        → result.thread ≡ count_by is_by_thread (places_at (stamp_at (pages_of threads.old.threads tid)) writes
+        (stamp_at marks.now.pages) (range_with_len w 1)) }
+    ensures kernel { (writes : ℕ → ℕ) → S.number_of write ≡ writes w
+        → result.kernel ≡ count_by is_by_kernel (places_at (stamp_at (pages_of threads.old.threads tid)) writes
+        (stamp_at marks.now.pages) (range_with_len w 1)) }
 {
     let found = foreign_word(access.stamp, write, marks, w);
     read_stamped(threads, tid, w, access, write, stamp);
@@ -281,6 +294,19 @@ fn read_foreign<S: Lanes>(
     marks: &Shadow<u8>,
     stamp: S,
 ) -> Foreign
+    requires lives { is_some (value_of threads.old.threads tid) ≡ true }
+    requires some { 1 ≤ length (frames_of threads.old.threads tid) }
+    requires place { HasPlace (pages_of threads.old.threads tid) w access.place }
+    requires sums { AreWithin (2 ^ 62 + 2 ^ 31) (frames_of threads.old.threads tid) }
+    requires own { S.number_of access.stamp ≡ stamp_at (pages_of threads.old.threads tid) w }
+    ensures read { (writes : ℕ → ℕ) → S.number_of write ≡ writes w
+        → IsRead threads.old threads.new tid writes (stamp_at marks.now.pages) w 1 (S.number_of stamp) }
+    ensures thread { (writes : ℕ → ℕ) → S.number_of write ≡ writes w
+        → result.thread ≡ count_by is_by_thread (places_at (stamp_at (pages_of threads.old.threads tid)) writes
+        (stamp_at marks.now.pages) (range_with_len w 1)) }
+    ensures kernel { (writes : ℕ → ℕ) → S.number_of write ≡ writes w
+        → result.kernel ≡ count_by is_by_kernel (places_at (stamp_at (pages_of threads.old.threads tid)) writes
+        (stamp_at marks.now.pages) (range_with_len w 1)) }
 {
     read_found(threads, tid, w, access, write, marks, stamp)
 }

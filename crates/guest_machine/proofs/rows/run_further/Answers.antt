@@ -1,8 +1,10 @@
-use Rattle.std.proofs.Common.{◌≡◌, ◌≤◌, Ok, IfOk, OnErr, sym, ap, subst, ◌∙◌, arith}
+use Rattle.std.proofs.Common.{◌≡◌, ◌≤◌, ◌+◌, Ok, IfOk, OnErr, sym, ap, subst, ◌∙◌, arith}
 use Rattle.guest_memory.specs.Guest.{memory_of}
 use Rattle.rv_exec.specs.Effects.{exec_state_of}
 use Rattle.guest_machine.specs.declared.rows.Paused.{Paused}
+use Rattle.guest_machine.specs.Private.Making.{Makes, MayMake}
 use Rattle.guest_machine.specs.Private.Rows.{Counts, HasMade, IsPaused, MayCount, RunsOn, answer_of, further_of}
+use Rattle.guest_machine.proofs.MadeSteps.{counted, may_make}
 use Rattle.guest_machine.proofs.RowOfSteps.{is_next, made_so_far, state_here}
 use Rattle.guest_machine.proofs.rows.run_further.Goals as goal
 
@@ -137,19 +139,6 @@ returns-in-Ok-Stops-clause-runs g c =
     let r = c.requires.run in
     goes
 
-pub returns-in-Ok-MayWrite-clause-runs : goal.returns-in-Ok-MayWrite-clause-runs
-returns-in-Ok-MayWrite-clause-runs g c = λ first began most run.
-    let old = c.args.observer.now in
-    let tid = c.args.tid in
-    let begun = exec_state_of c.args.cpu.now c.args.memory.now c.args.held.now in
-    let here = exec_state_of c.run_page_at.new.cpu c.args.memory.now c.args.held.now in
-    let page = c.in-Ok-MayWrite.is ∙ ap (λ (p : Paused). Ok p) c.in-Ok-MayWrite.field-0-is in
-    let goes = subst (λ r. RunsOn g.W.Observer.stands (g.W.Observer.fits old) tid c.args.row.now begun old c.run_page_at.new.row here c.run_page_at.new.observer (answer_of r)) page c.run_page_at.ensures.runs in
-    let r = c.requires.run in
-    let there = exec_state_of c.carry_out-next.new.cpu c.carry_out-next.new.memory c.carry_out-next.new.held in
-    let counts = subst (λ fits. Counts g.W.Observer.stands fits tid c.run_page_at.new.row c.carry_out-next.result c.run_page_at.new.observer c.count_next.new.row c.count_next.new.observer (further_of c.count_next.result)) c.run_page_at.ensures.same c.count_next.ensures.counts in
-    counts here there (is_next here there tid c.carry_out-next.result c.carry_out-next.ensures.step c.carry_out-next.ensures.kept c.carry_out-next.ensures.instruction) first began most (goes first began most run)
-
 pub returns-in-Ok-clause-runs : goal.returns-in-Ok-clause-runs
 returns-in-Ok-clause-runs g c = λ first began most run.
     let old = c.args.observer.now in
@@ -176,3 +165,75 @@ returns-in-Err-carry_out_next-clause-runs g c = λ first began most run.
     let kept : there ≡ here = subst (λ r. OnErr r (there ≡ here)) c.in-Err-carry_out_next.is c.carry_out_next.ensures.refused in
     subst (HasMade tid first most c.run_page_at.new.row) (sym kept)
     (made_so_far g.W.Observer.stands (g.W.Observer.fits old) (g.W.Observer.steps_fit old) tid first began most c.run_page_at.new.row here c.run_page_at.new.observer (goes first began most run))
+
+pub overflow_add-steps : goal.overflow_add-steps
+overflow_add-steps g c =
+    let old = c.args.observer.now in
+    let tid = c.args.tid in
+    let begun = exec_state_of c.args.cpu.now c.args.memory.now c.args.held.now in
+    let here = exec_state_of c.run_page_at.new.cpu c.args.memory.now c.args.held.now in
+    let page = c.in-Ok-MayWrite.is ∙ ap (λ (p : Paused). Ok p) c.in-Ok-MayWrite.field-0-is in
+    let next = subst (λ r. IfOk r (IsPaused (memory_of c.args.memory.now) c.run_page_at.new.cpu.pc c.run_page_at.new.row)) page c.run_page_at.ensures.next in
+    let goes = subst (λ r. RunsOn g.W.Observer.stands (g.W.Observer.fits old) tid c.args.row.now begun old c.run_page_at.new.row here c.run_page_at.new.observer (answer_of r)) page c.run_page_at.ensures.runs in
+    let r = c.requires.run in
+    let run = goes r.first r.old r.most r.run in
+    omega (arith, next.0, run.room, r.run.room, c.requires.range)
+
+pub make_store-made-requires-clause-may : goal.make_store-made-requires-clause-may
+make_store-made-requires-clause-may g c =
+    let old = c.args.observer.now in
+    let tid = c.args.tid in
+    let begun = exec_state_of c.args.cpu.now c.args.memory.now c.args.held.now in
+    let here = exec_state_of c.run_page_at.new.cpu c.args.memory.now c.args.held.now in
+    let page = c.in-Ok-MayWrite.is ∙ ap (λ (p : Paused). Ok p) c.in-Ok-MayWrite.field-0-is in
+    let next = subst (λ r. IfOk r (IsPaused (memory_of c.args.memory.now) c.run_page_at.new.cpu.pc c.run_page_at.new.row)) page c.run_page_at.ensures.next in
+    let goes = subst (λ r. RunsOn g.W.Observer.stands (g.W.Observer.fits old) tid c.args.row.now begun old c.run_page_at.new.row here c.run_page_at.new.observer (answer_of r)) page c.run_page_at.ensures.runs in
+    let r = c.requires.run in
+    let run = goes r.first r.old r.most r.run in
+    subst (λ fits. MayMake g.W.Observer.stands fits tid (c.run_page_at.new.row.plain + 1) here c.run_page_at.new.observer) (sym c.run_page_at.ensures.same)
+    (may_make g.W.Observer.stands (g.W.Observer.fits old) tid c.run_page_at.new.row next.0 here c.run_page_at.new.observer r.first r.old r.most run)
+
+pub count_made-requires-clause-range : goal.count_made-requires-clause-range
+count_made-requires-clause-range g c =
+    let old = c.args.observer.now in
+    let tid = c.args.tid in
+    let begun = exec_state_of c.args.cpu.now c.args.memory.now c.args.held.now in
+    let here = exec_state_of c.run_page_at.new.cpu c.args.memory.now c.args.held.now in
+    let page = c.in-Ok-MayWrite.is ∙ ap (λ (p : Paused). Ok p) c.in-Ok-MayWrite.field-0-is in
+    let next = subst (λ r. IfOk r (IsPaused (memory_of c.args.memory.now) c.run_page_at.new.cpu.pc c.run_page_at.new.row)) page c.run_page_at.ensures.next in
+    let goes = subst (λ r. RunsOn g.W.Observer.stands (g.W.Observer.fits old) tid c.args.row.now begun old c.run_page_at.new.row here c.run_page_at.new.observer (answer_of r)) page c.run_page_at.ensures.runs in
+    let r = c.requires.run in
+    let run = goes r.first r.old r.most r.run in
+    omega (arith, run.room, r.run.room, c.requires.range)
+
+pub returns-in-Store-clause-runs : goal.returns-in-Store-clause-runs
+returns-in-Store-clause-runs g c =
+    let old = c.args.observer.now in
+    let tid = c.args.tid in
+    let begun = exec_state_of c.args.cpu.now c.args.memory.now c.args.held.now in
+    let here = exec_state_of c.run_page_at.new.cpu c.args.memory.now c.args.held.now in
+    let page = c.in-Ok-MayWrite.is ∙ ap (λ (p : Paused). Ok p) c.in-Ok-MayWrite.field-0-is in
+    let next = subst (λ r. IfOk r (IsPaused (memory_of c.args.memory.now) c.run_page_at.new.cpu.pc c.run_page_at.new.row)) page c.run_page_at.ensures.next in
+    let goes = subst (λ r. RunsOn g.W.Observer.stands (g.W.Observer.fits old) tid c.args.row.now begun old c.run_page_at.new.row here c.run_page_at.new.observer (answer_of r)) page c.run_page_at.ensures.runs in
+    let r = c.requires.run in
+    let run = goes r.first r.old r.most r.run in
+    let new = exec_state_of c.make_store-made.new.cpu c.make_store-made.new.memory c.make_store-made.new.held in
+    let makes = subst (λ fits. Makes g.W.Observer.stands fits tid (c.run_page_at.new.row.plain + 1) here c.run_page_at.new.observer new c.make_store-made.new.observer c.make_store-made.result)
+    c.run_page_at.ensures.same c.make_store-made.ensures.made in
+    λ first began most run.
+    counted g.W.Observer.stands (g.W.Observer.fits old) tid c.run_page_at.new.row next.0 here c.run_page_at.new.observer new c.make_store-made.new.observer
+    c.make_store-made.result makes c.count_made.new.row c.count_made.ensures.row c.count_made.result c.count_made.ensures.further first began most (goes first began most run)
+
+pub returns-in_default-clause-runs : goal.returns-in_default-clause-runs
+returns-in_default-clause-runs g c = λ first began most run.
+    let old = c.args.observer.now in
+    let tid = c.args.tid in
+    let begun = exec_state_of c.args.cpu.now c.args.memory.now c.args.held.now in
+    let here = exec_state_of c.run_page_at.new.cpu c.args.memory.now c.args.held.now in
+    let page = c.in-Ok-MayWrite.is ∙ ap (λ (p : Paused). Ok p) c.in-Ok-MayWrite.field-0-is in
+    let goes = subst (λ r. RunsOn g.W.Observer.stands (g.W.Observer.fits old) tid c.args.row.now begun old c.run_page_at.new.row here c.run_page_at.new.observer (answer_of r)) page c.run_page_at.ensures.runs in
+    let r = c.requires.run in
+    let there = exec_state_of c.carry_out-next.new.cpu c.carry_out-next.new.memory c.carry_out-next.new.held in
+    let counts = subst (λ fits. Counts g.W.Observer.stands fits tid c.run_page_at.new.row c.carry_out-next.result c.run_page_at.new.observer c.count_next.new.row c.count_next.new.observer (further_of c.count_next.result)) c.run_page_at.ensures.same c.count_next.ensures.counts in
+    counts here there (is_next here there tid c.carry_out-next.result c.carry_out-next.ensures.step c.carry_out-next.ensures.kept c.carry_out-next.ensures.instruction) first began most (goes first began most run)
+

@@ -1,4 +1,4 @@
-use Rattle.std.proofs.Common.{◌≡◌, Option, IfSome, ◌+◌, ◌++◌, Ok, Err, IfOk, sym, ap, subst, ◌∙◌, arith}
+use Rattle.std.proofs.Common.{◌≡◌, Option, IfSome, ◌+◌, ◌++◌, Ok, Err, IfOk, refl, sym, ap, subst, ◌∙◌, arith}
 use Rattle.rv_isa.specs.declared.instruction.Instr.{Instr}
 use Rattle.guest_memory.specs.Code.{IsInstructionAt}
 use Rattle.guest_memory.specs.Guest.{memory_of}
@@ -8,49 +8,101 @@ use Rattle.trace_model.specs.declared.observer.Observed.{Observed}
 use Rattle.trace_model.specs.declared.observer.Observed.TheVariants.{Refused, Taken}
 use Rattle.trace_model.specs.Observing.{MayTakeAll, ObservesAll}
 use Rattle.guest_machine.specs.Private.Carrying.{IsReadingOf, IsStepOf}
-use Rattle.guest_machine.specs.Private.Rows.{HasRun}
+use Rattle.guest_machine.specs.declared.rows.Further.{Further}
+use Rattle.guest_machine.specs.Private.Making.{Makes, MayMake}
+use Rattle.guest_machine.specs.Private.Rows.{HasRun, Runs, further_of}
 use Rattle.guest_machine.specs.Told.{IsInstruction, done_by, steps_of}
 use Rattle.guest_machine.proofs.Carried.{state_aligned}
+use Rattle.guest_machine.proofs.MadeSteps.{counted, made_grows, made_whole, may_make}
 use Rattle.guest_machine.proofs.RowOfSteps.{handed_grows, handed_whole, may_hand, runs_plainly, runs_to, state_here}
 use Rattle.guest_machine.proofs.rows.run_page.Goals as goal
 
-pub find-requires : goal.find-requires
-find-requires g c =
+pub find_in-requires-clause-even : goal.find_in-requires-clause-even
+find_in-requires-clause-even g c =
     let old = c.args.observer.now in
     let r = c.requires.run in
     let here = exec_state_of (with_pc c.steps.pc c.steps.cpu) c.args.memory.now c.args.held.now in
     state_aligned here c.args.tid _ (state_here g.W.Observer.stands (g.W.Observer.fits old) (g.W.Observer.steps_fit old) c.args.tid r.first r.old r.most c.steps.row here c.steps.observer
     (c.steps.invariant.runs r.first r.old r.most r.run))
 
-pub returns-in-MayWrite-clause-runs : goal.returns-in-MayWrite-clause-runs
-returns-in-MayWrite-clause-runs g c =
+pub make_load-made-requires-clause-may : goal.make_load-made-requires-clause-may
+make_load-made-requires-clause-may g c =
     let old = c.args.observer.now in
-    let here = exec_state_of (with_pc c.steps.pc c.steps.cpu) c.args.memory.now c.args.held.now in
-    let new = exec_state_of (with_pc c.carry_out_reading.new.pc c.carry_out_reading.new.cpu) c.args.memory.now c.args.held.now in
-    let kept : new ≡ here = subst (IsReadingOf here new c.args.tid) c.in-MayWrite.is (c.carry_out_reading.ensures c.args.tid c.args.held.now) in
-    λ first began most run.
-    subst (λ (s : ExecState). HasRun g.W.Observer.stands (g.W.Observer.fits old) c.args.tid first began most c.steps.row s c.steps.observer) (sym kept)
-    (c.steps.invariant.runs first began most run)
+    let tid = c.args.tid in
+    let r = c.requires.run in
+    let here = exec_state_of (with_pc c.steps.pc c.steps.cpu) c.args.memory.now c.args.held.now in (
+      c.args.held.now,
+      subst (λ fits. MayMake g.W.Observer.stands fits tid (c.steps.row.plain + 1) here c.steps.observer) (sym c.steps.invariant.same)
+          (may_make g.W.Observer.stands (g.W.Observer.fits old) tid c.steps.row c.steps-test.true here c.steps.observer r.first r.old r.most
+          (c.steps.invariant.runs r.first r.old r.most r.run)),
+    )
 
-pub returns-in-MayWrite-clause-next : goal.returns-in-MayWrite-clause-next
-returns-in-MayWrite-clause-next g c =
-    let m = memory_of c.args.memory.now in
-    let here = exec_state_of (with_pc c.steps.pc c.steps.cpu) c.args.memory.now c.args.held.now in
-    let new = exec_state_of (with_pc c.carry_out_reading.new.pc c.carry_out_reading.new.cpu) c.args.memory.now c.args.held.now in
-    let kept : new ≡ here = subst (IsReadingOf here new c.args.tid) c.in-MayWrite.is (c.carry_out_reading.ensures c.args.tid c.args.held.now) in
-    let found = subst (λ (o : Option Instr). IfSome o (IsInstructionAt m c.steps.pc)) c.in-Some.is (c.find.ensures m c.requires.page) in
-    let same = sym (ap (λ (s : ExecState). s.registers.pc) kept) in
-    (c.steps-test.true, subst (λ pc. IsInstructionAt m pc c.in-Some.instruction) same found)
-
-pub returns-in-Stops-clause-runs : goal.returns-in-Stops-clause-runs
-returns-in-Stops-clause-runs g c =
+pub steps-preserved-in-Ok-Went : goal.steps-preserved-in-Ok-Went
+steps-preserved-in-Ok-Went g c =
     let old = c.args.observer.now in
+    let tid = c.args.tid in
     let here = exec_state_of (with_pc c.steps.pc c.steps.cpu) c.args.memory.now c.args.held.now in
-    let new = exec_state_of (with_pc c.carry_out_reading.new.pc c.carry_out_reading.new.cpu) c.args.memory.now c.args.held.now in
-    let kept : new ≡ here = subst (IsReadingOf here new c.args.tid) c.in-Stops.is (c.carry_out_reading.ensures c.args.tid c.args.held.now) in
+    let new = exec_state_of (with_pc c.make_load-made.new.pc c.make_load-made.new.cpu) c.args.memory.now c.args.held.now in
+    let makes = subst (λ fits. Makes g.W.Observer.stands fits tid (c.steps.row.plain + 1) here c.steps.observer new c.make_load-made.new.observer c.make_load-made.result)
+    c.steps.invariant.same (c.make_load-made.ensures.made c.args.held.now) in
+    let on = counted g.W.Observer.stands (g.W.Observer.fits old) tid c.steps.row c.steps-test.true here c.steps.observer new c.make_load-made.new.observer
+    c.make_load-made.result makes c.count_made.new.row c.count_made.ensures.row c.count_made.result c.count_made.ensures.further in
+    let grown = made_grows c.steps.row c.count_made.new.row c.make_load-made.result c.count_made.ensures.row in
+    record {
+      runs =
+          let is = c.in-Ok-Went.is ∙ ap (λ (f : Further). Ok f) c.in-Ok-Went.field-0-is in
+          λ first began most run.
+          subst (λ r. Runs g.W.Observer.stands (g.W.Observer.fits old) tid first began most c.count_made.new.row new c.make_load-made.new.observer (further_of r)) is
+          (on first began most (c.steps.invariant.runs first began most run));
+      grows = omega (arith, c.steps.invariant.grows, grown);
+      whole = made_whole c.steps.row c.count_made.new.row c.make_load-made.result c.count_made.ensures.row c.steps-test.true ∙ c.steps.invariant.whole;
+      same = c.make_load-made.ensures.same ∙ c.steps.invariant.same;
+    }
+
+pub returns-in-Ok-Refused-clause-runs : goal.returns-in-Ok-Refused-clause-runs
+returns-in-Ok-Refused-clause-runs g c =
+    let old = c.args.observer.now in
+    let tid = c.args.tid in
+    let here = exec_state_of (with_pc c.steps.pc c.steps.cpu) c.args.memory.now c.args.held.now in
+    let new = exec_state_of (with_pc c.make_load-made.new.pc c.make_load-made.new.cpu) c.args.memory.now c.args.held.now in
+    let makes = subst (λ fits. Makes g.W.Observer.stands fits tid (c.steps.row.plain + 1) here c.steps.observer new c.make_load-made.new.observer c.make_load-made.result)
+    c.steps.invariant.same (c.make_load-made.ensures.made c.args.held.now) in
+    let on = counted g.W.Observer.stands (g.W.Observer.fits old) tid c.steps.row c.steps-test.true here c.steps.observer new c.make_load-made.new.observer
+    c.make_load-made.result makes c.count_made.new.row c.count_made.ensures.row c.count_made.result c.count_made.ensures.further in
+    let is = c.in-Ok-Refused.is ∙ ap (λ (f : Further). Ok f) c.in-Ok-Refused.field-0-is in
     λ first began most run.
-    subst (λ (s : ExecState). HasRun g.W.Observer.stands (g.W.Observer.fits old) c.args.tid first began most c.steps.row s c.steps.observer) (sym kept)
-    (c.steps.invariant.runs first began most run)
+    subst (λ r. Runs g.W.Observer.stands (g.W.Observer.fits old) tid first began most c.count_made.new.row new c.make_load-made.new.observer (further_of r)) is
+    (on first began most (c.steps.invariant.runs first began most run))
+
+pub returns-in-Ok-Stopped-clause-runs : goal.returns-in-Ok-Stopped-clause-runs
+returns-in-Ok-Stopped-clause-runs g c =
+    let old = c.args.observer.now in
+    let tid = c.args.tid in
+    let here = exec_state_of (with_pc c.steps.pc c.steps.cpu) c.args.memory.now c.args.held.now in
+    let new = exec_state_of (with_pc c.make_load-made.new.pc c.make_load-made.new.cpu) c.args.memory.now c.args.held.now in
+    let makes = subst (λ fits. Makes g.W.Observer.stands fits tid (c.steps.row.plain + 1) here c.steps.observer new c.make_load-made.new.observer c.make_load-made.result)
+    c.steps.invariant.same (c.make_load-made.ensures.made c.args.held.now) in
+    let on = counted g.W.Observer.stands (g.W.Observer.fits old) tid c.steps.row c.steps-test.true here c.steps.observer new c.make_load-made.new.observer
+    c.make_load-made.result makes c.count_made.new.row c.count_made.ensures.row c.count_made.result c.count_made.ensures.further in
+    let is = c.in-Ok-Stopped.is ∙ ap (λ (f : Further). Ok f) c.in-Ok-Stopped.field-0-is in
+    λ first began most run.
+    subst (λ r. Runs g.W.Observer.stands (g.W.Observer.fits old) tid first began most c.count_made.new.row new c.make_load-made.new.observer (further_of r)) is
+    (on first began most (c.steps.invariant.runs first began most run))
+
+pub returns-in-Err-clause-runs : goal.returns-in-Err-clause-runs
+returns-in-Err-clause-runs g c =
+    let old = c.args.observer.now in
+    let tid = c.args.tid in
+    let here = exec_state_of (with_pc c.steps.pc c.steps.cpu) c.args.memory.now c.args.held.now in
+    let new = exec_state_of (with_pc c.make_load-made.new.pc c.make_load-made.new.cpu) c.args.memory.now c.args.held.now in
+    let makes = subst (λ fits. Makes g.W.Observer.stands fits tid (c.steps.row.plain + 1) here c.steps.observer new c.make_load-made.new.observer c.make_load-made.result)
+    c.steps.invariant.same (c.make_load-made.ensures.made c.args.held.now) in
+    let on = counted g.W.Observer.stands (g.W.Observer.fits old) tid c.steps.row c.steps-test.true here c.steps.observer new c.make_load-made.new.observer
+    c.make_load-made.result makes c.count_made.new.row c.count_made.ensures.row c.count_made.result c.count_made.ensures.further in
+    let is = c.in-Err.is in
+    λ first began most run.
+    subst (λ r. Runs g.W.Observer.stands (g.W.Observer.fits old) tid first began most c.count_made.new.row new c.make_load-made.new.observer (further_of r)) is
+    (on first began most (c.steps.invariant.runs first began most run))
 
 pub steps-preserved-in-Ran : goal.steps-preserved-in-Ran
 steps-preserved-in-Ran g c =
@@ -106,8 +158,8 @@ steps-preserved g c =
       same = c.hand_step.ensures.same ∙ c.steps.invariant.same;
     }
 
-pub returns-in-Ok-Refused : goal.returns-in-Ok-Refused
-returns-in-Ok-Refused g c =
+pub returns-in-Ok-Refused-hand_step : goal.returns-in-Ok-Refused-hand_step
+returns-in-Ok-Refused-hand_step g c =
     let old = c.args.observer.now in
     let tid = c.args.tid in
     let here = exec_state_of (with_pc c.steps.pc c.steps.cpu) c.args.memory.now c.args.held.now in
@@ -120,14 +172,14 @@ returns-in-Ok-Refused g c =
       runs = λ first began most run.
           runs_to g.W.Observer.stands (g.W.Observer.fits old) (g.W.Observer.steps_fit old) tid first began most c.steps.row here c.steps.observer
           (c.steps.invariant.runs first began most run) c.steps-test.true new c.in-Went.advanced went.0 c.hand_step.new.row c.hand_step.ensures.row
-          c.hand_step.result (Ok Refused) (c.in-Ok-Refused.is ∙ ap (λ (o : Observed). Ok o) c.in-Ok-Refused.field-0-is) c.hand_step.new.observer observes;
+          c.hand_step.result (Ok Refused) (c.in-Ok-Refused-hand_step.is ∙ ap (λ (o : Observed). Ok o) c.in-Ok-Refused-hand_step.field-0-is) c.hand_step.new.observer observes;
       next = tt;
       grows = omega (arith, c.steps.invariant.grows, grown);
       same = c.hand_step.ensures.same ∙ c.steps.invariant.same;
     }
 
-pub returns-in-Err : goal.returns-in-Err
-returns-in-Err g c =
+pub returns-in-Err-hand_step : goal.returns-in-Err-hand_step
+returns-in-Err-hand_step g c =
     let old = c.args.observer.now in
     let tid = c.args.tid in
     let here = exec_state_of (with_pc c.steps.pc c.steps.cpu) c.args.memory.now c.args.held.now in
@@ -140,8 +192,39 @@ returns-in-Err g c =
       runs = λ first began most run.
           runs_to g.W.Observer.stands (g.W.Observer.fits old) (g.W.Observer.steps_fit old) tid first began most c.steps.row here c.steps.observer
           (c.steps.invariant.runs first began most run) c.steps-test.true new c.in-Went.advanced went.0 c.hand_step.new.row c.hand_step.ensures.row
-          c.hand_step.result (Err c.in-Err.e) (c.in-Err.is) c.hand_step.new.observer observes;
+          c.hand_step.result (Err c.in-Err-hand_step.e) (c.in-Err-hand_step.is) c.hand_step.new.observer observes;
       next = tt;
       grows = omega (arith, c.steps.invariant.grows, grown);
       same = c.hand_step.ensures.same ∙ c.steps.invariant.same;
     }
+
+pub returns-in-MayWrite-clause-runs : goal.returns-in-MayWrite-clause-runs
+returns-in-MayWrite-clause-runs g c =
+    let old = c.args.observer.now in
+    let here = exec_state_of (with_pc c.steps.pc c.steps.cpu) c.args.memory.now c.args.held.now in
+    let new = exec_state_of (with_pc c.carry_out_reading.new.pc c.carry_out_reading.new.cpu) c.args.memory.now c.args.held.now in
+    let kept : new ≡ here = subst (IsReadingOf here new c.args.tid) c.in-MayWrite.is (c.carry_out_reading.ensures c.args.tid c.args.held.now) in
+    λ first began most run.
+    subst (λ (s : ExecState). HasRun g.W.Observer.stands (g.W.Observer.fits old) c.args.tid first began most c.steps.row s c.steps.observer) (sym kept)
+    (c.steps.invariant.runs first began most run)
+
+pub returns-in-MayWrite-clause-next : goal.returns-in-MayWrite-clause-next
+returns-in-MayWrite-clause-next g c =
+    let m = memory_of c.args.memory.now in
+    let here = exec_state_of (with_pc c.steps.pc c.steps.cpu) c.args.memory.now c.args.held.now in
+    let new = exec_state_of (with_pc c.carry_out_reading.new.pc c.carry_out_reading.new.cpu) c.args.memory.now c.args.held.now in
+    let kept : new ≡ here = subst (IsReadingOf here new c.args.tid) c.in-MayWrite.is (c.carry_out_reading.ensures c.args.tid c.args.held.now) in
+    let found = subst (λ (o : Option Instr). IfSome o (IsInstructionAt m c.steps.pc)) c.in-Some.is (c.find_in.ensures m c.requires.code) in
+    let same = sym (ap (λ (s : ExecState). s.registers.pc) kept) in
+    (c.steps-test.true, subst (λ pc. IsInstructionAt m pc c.in-Some.instruction) same found)
+
+pub returns-in-Stops-clause-runs : goal.returns-in-Stops-clause-runs
+returns-in-Stops-clause-runs g c =
+    let old = c.args.observer.now in
+    let here = exec_state_of (with_pc c.steps.pc c.steps.cpu) c.args.memory.now c.args.held.now in
+    let new = exec_state_of (with_pc c.carry_out_reading.new.pc c.carry_out_reading.new.cpu) c.args.memory.now c.args.held.now in
+    let kept : new ≡ here = subst (IsReadingOf here new c.args.tid) c.in-Stops.is (c.carry_out_reading.ensures c.args.tid c.args.held.now) in
+    λ first began most run.
+    subst (λ (s : ExecState). HasRun g.W.Observer.stands (g.W.Observer.fits old) c.args.tid first began most c.steps.row s c.steps.observer) (sym kept)
+    (c.steps.invariant.runs first began most run)
+
