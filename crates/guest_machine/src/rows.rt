@@ -224,9 +224,7 @@ fn run_page_at<W: Observer>(
     };
     let (first, code) = page.parts();
     let mut pc = cpu.pc;
-    let answer = run_page(
-        &mut pc, cpu, memory, held, tid, first, code, row, observer,
-    );
+    let answer = run_page(&mut pc, cpu, memory, held, tid, first, code, row, observer);
     cpu.pc = pc;
     answer
 }

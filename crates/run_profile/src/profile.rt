@@ -208,10 +208,4 @@ impl<S: Lanes, K: Keeper> Observer for Profile<S, K> {
         self.steps += count;
         Ok(())
     }
-
-    #[inline(always)]
-    fn observe_after(&mut self, tid: Tid, count: u64, e: Event) -> Result<Observed, AllocError> {
-        self.observe_steps(tid, count)?;
-        self.observe(e)
-    }
 }

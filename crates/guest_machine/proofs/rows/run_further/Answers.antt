@@ -236,4 +236,3 @@ returns-in_default-clause-runs g c = λ first began most run.
     let there = exec_state_of c.carry_out-next.new.cpu c.carry_out-next.new.memory c.carry_out-next.new.held in
     let counts = subst (λ fits. Counts g.W.Observer.stands fits tid c.run_page_at.new.row c.carry_out-next.result c.run_page_at.new.observer c.count_next.new.row c.count_next.new.observer (further_of c.count_next.result)) c.run_page_at.ensures.same c.count_next.ensures.counts in
     counts here there (is_next here there tid c.carry_out-next.result c.carry_out-next.ensures.step c.carry_out-next.ensures.kept c.carry_out-next.ensures.instruction) first began most (goes first began most run)
-

@@ -227,4 +227,3 @@ returns-in-Stops-clause-runs g c =
     λ first began most run.
     subst (λ (s : ExecState). HasRun g.W.Observer.stands (g.W.Observer.fits old) c.args.tid first began most c.steps.row s c.steps.observer) (sym kept)
     (c.steps.invariant.runs first began most run)
-
