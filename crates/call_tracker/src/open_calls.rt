@@ -1,11 +1,12 @@
 //! The open calls of a thread.
-ghost use Rattle.std.specs.Prelude.{◌≡◌, ◌+◌, ◌-◌, ◌≤◌, ◌++◌, ◌∷◌, [], length, map, slice_get, take, reverse, IfNone, IfOk, IfSome, IsOk, OnOk, OnErr};
+ghost use Rattle.std.specs.Prelude.{◌≡◌, ◌+◌, ◌-◌, ◌≤◌, ◌++◌, ◌∷◌, [], length, map, slice_get, take, nat_lt, reverse, true, IfNone, IfOk, IfSome, IsOk, OnOk, OnErr};
 ghost use Rattle.trace_model.specs.Activations.{count_returned};
 
 use crate::Returns;
 use crate::missed::Missed;
 use crate::returns::count_returned;
 use guest_words::Addr;
+use room_stack::RoomStack;
 use std::alloc::{AllocError, Global};
 use std::marker::Model;
 
@@ -33,13 +34,12 @@ impl Returns for OpenCall {
 /// target that ended none, as long as that target is one of the eight that are remembered, and else at all of them.
 #[derive(Drop)]
 pub struct OpenCalls<C: Returns> {
-    calls: Vec<C>,
+    calls: RoomStack<C>,
     missed: Missed,
 }
 
 impl<C: Returns> Model for OpenCalls<C> {
-    ghost use Rattle.std.specs.Prelude.{◌-◌, map, vec_len};
-    ghost use Rattle.std.specs.Vec.{vec_capacity};
+    ghost use Rattle.std.specs.Prelude.{map};
     ghost use Rattle.call_tracker.specs.Calls.{CallStack, stack_code};
     ghost use Rattle.call_tracker.specs.Private.Missed.{AreMissed};
 
@@ -49,7 +49,7 @@ impl<C: Returns> Model for OpenCalls<C> {
 
     ghost view = { λ c. record {
       calls = c.calls.items;
-      spare = vec_capacity c.calls - vec_len c.calls;
+      spare = c.calls.spare;
     } };
 
     ghost invariant = { λ c. AreMissed (map C.back_of c.calls.items) c.missed };
@@ -61,7 +61,7 @@ impl<C: Returns> OpenCalls<C> {
         ensures { IfOk result (λ c. c.calls ≡ []) }
     {
         Ok(OpenCalls {
-            calls: Vec::new(alloc),
+            calls: RoomStack::new(alloc),
             missed: Missed::nothing(),
         })
     }
@@ -72,25 +72,25 @@ impl<C: Returns> OpenCalls<C> {
         ensures calls { self.new.calls ≡ self.old.calls }
         ensures kept { self.old.spare ≤ self.new.spare }
     {
-        self.calls.reserve(1)
+        self.calls.reserve()
     }
 
     /// Begins a call. A refused one changes nothing, and none is refused where there is spare room.
+    #[inline(always)]
     pub fn push(&mut self, call: C) -> Result<(), AllocError>
         ensures ok { OnOk result (self.new.calls ≡ self.old.calls ++ call ∷ []) }
         ensures err { OnErr result (self.new.calls ≡ self.old.calls) }
         ensures room { 1 ≤ self.old.spare → IsOk result }
         ensures lowered { self.old.spare ≤ self.new.spare + 1 }
     {
-        self.calls.push(call)?;
-        Ok(())
+        self.calls.push(call)
     }
 
     /// The innermost call.
     pub fn top(&self) -> Option<C>
         ensures { result ≡ slice_get (reverse self.now.calls) 0 }
     {
-        self.calls.last().copied()
+        self.calls.as_slice().last().copied()
     }
 
     /// How many calls are open.
@@ -100,15 +100,50 @@ impl<C: Returns> OpenCalls<C> {
         self.calls.len()
     }
 
+    /// Whether a call can be pushed without allocating.
+    #[inline(always)]
+    pub fn has_room(&self) -> bool
+        ensures { result ≡ nat_lt 0 self.now.spare }
+    {
+        self.calls.has_room()
+    }
+
+    // Whether the innermost call returns to the target.
+    #[inline(always)]
+    fn top_returns_to(&self, target: Addr) -> bool
+        ensures { result ≡ true
+            → count_returned target (map C.back_of (reverse self.now.calls)) ≡ 1 }
+    {
+        match self.calls.as_slice().last() {
+            Some(call) => call.back() == Some(target),
+            None => false,
+        }
+    }
+
     /// How many calls a return to the target ends: the innermost with that return address and all that it holds, and
-    /// none where no call has it, which is remembered.
+    /// none where no call has it, which is remembered. Mostly it is the innermost of all, which is looked at first.
+    #[inline(always)]
     pub fn ending(&mut self, target: Addr) -> usize
         ensures count { result ≡ count_returned target (map C.back_of (reverse self.old.calls)) }
         ensures within { result ≤ length self.old.calls }
         ensures same { self.new ≡ self.old }
     {
+        if self.top_returns_to(target) {
+            return 1;
+        }
+        self.search(target)
+    }
+
+    // The same, for a target that need not be the innermost call's.
+    #[cold]
+    #[inline(never)]
+    fn search(&mut self, target: Addr) -> usize
+        ensures count { result ≡ count_returned target (map C.back_of (reverse self.old.calls)) }
+        ensures within { result ≤ length self.old.calls }
+        ensures same { self.new ≡ self.old }
+    {
         let missed = self.missed.depth_of(target);
-        let ended = count_returned(target, &self.calls[missed..]);
+        let ended = count_returned(target, &self.calls.as_slice()[missed..]);
         if ended == 0 {
             self.missed.remember(target, self.calls.len());
         }
@@ -140,6 +175,7 @@ impl<C: Returns> OpenCalls<C> {
     }
 
     /// Takes the innermost call.
+    #[inline(always)]
     pub fn pop(&mut self) -> Option<C>
         ensures some { IfSome result (λ call. self.old.calls ≡ self.new.calls ++ call ∷ []) }
         ensures none { IfNone result (self.old.calls ≡ []) }

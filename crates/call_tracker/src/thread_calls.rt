@@ -1,5 +1,5 @@
 //! The open calls of a thread, and what it counts.
-ghost use Rattle.std.specs.Prelude.{◌≡◌, ◌+◌, ◌-◌, ◌<◌, ◌≤◌, ◌^◌, ◌∷◌, [], IfNone, IfOk, IfSome, IsOk, OnErr, OnOk, length, map};
+ghost use Rattle.std.specs.Prelude.{◌≡◌, ◌+◌, ◌-◌, ◌<◌, ◌≤◌, ◌^◌, ◌∷◌, [], IfNone, IfOk, IfSome, IsOk, OnErr, OnOk, length, map, nat_lt};
 ghost use Rattle.trace_model.specs.Activations.{count_returned};
 ghost use Rattle.call_tracker.specs.ThreadCalls.{CountedCall, no_counts};
 
@@ -134,7 +134,16 @@ impl ThreadCalls {
         self.calls.reserve()
     }
 
+    /// Whether one more call can begin without allocating.
+    #[inline(always)]
+    pub fn has_room(&self) -> bool
+        ensures { result ≡ nat_lt 0 self.now.spare }
+    {
+        self.calls.has_room()
+    }
+
     /// One more call inside all the others. It is not refused where there is room, and a refused one changes nothing.
+    #[inline(always)]
     pub fn push(&mut self, entry: Addr, back: Option<Addr>) -> Result<(), AllocError>
         ensures ok { OnOk result (self.new.list
             ≡ record { entry = entry; back = back; earlier = self.old.counts } ∷ self.old.list) }
@@ -151,6 +160,7 @@ impl ThreadCalls {
     }
 
     /// What it has counted.
+    #[inline(always)]
     pub fn counts(&self) -> ThreadCounts
         ensures { result ≡ self.now.counts }
     {
@@ -165,6 +175,7 @@ impl ThreadCalls {
     }
 
     /// How many calls a return to the target ends.
+    #[inline(always)]
     pub fn ending(&mut self, target: Addr) -> usize
         ensures count { result ≡ count_returned target
             (map (λ (c : CountedCall). c.back) self.old.list) }
@@ -175,6 +186,7 @@ impl ThreadCalls {
     }
 
     /// Takes the innermost call.
+    #[inline(always)]
     pub fn pop(&mut self) -> Option<BegunCall>
         ensures some { IfSome result (λ c. self.old.list ≡ c ∷ self.new.list) }
         ensures none { IfNone result (self.old.list ≡ []) }
@@ -185,6 +197,7 @@ impl ThreadCalls {
     }
 
     /// Adds steps.
+    #[inline(always)]
     pub fn add_steps(&mut self, steps: u64)
         requires { self.old.counts.steps + steps < 2 ^ 64 }
         ensures { self.new ≡ record self.old { counts = record self.old.counts { steps = self.old.counts.steps + steps } } }

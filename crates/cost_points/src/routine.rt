@@ -1,5 +1,5 @@
 //! The points of one routine.
-ghost use Rattle.std.specs.Prelude.{◌≡◌, [], ◌∷◌, ℕ, map, IfOk, IsOk, OnOk, OnErr};
+ghost use Rattle.std.specs.Prelude.{◌≡◌, [], ◌∷◌, ℕ, false, map, true, IfOk, IsOk, OnOk, OnErr};
 ghost use Rattle.std.specs.List.{All};
 ghost use Rattle.cost_points.specs.Keys.{IsRising};
 ghost use Rattle.cost_points.specs.Merging.{point_added};
@@ -61,6 +61,20 @@ impl RoutinePoints {
             → IsOk result }
     {
         self.points.add_one(ended)
+    }
+
+    /// One more activation of the routine, where it has a point of that size, and true; else false, and nothing changes.
+    #[inline(always)]
+    pub fn add_known(&mut self, ended: &Done) -> bool
+        requires rising { IsRising (map (λ p. p.size) self.old.points) }
+        requires room { All HasRoom self.old.points }
+        ensures added { result ≡ true → self.new ≡ point_added
+            (point_of ended.now.size (ended.now ∷ [])) self.old }
+        ensures same { result ≡ false → self.new ≡ self.old }
+        ensures known { (place : ℕ) → IsAt (map (λ p. p.size) self.old.points) ended.now.size place
+            → result ≡ true }
+    {
+        self.points.add_known(ended)
     }
 
     /// The points, by rising size.

@@ -1,5 +1,5 @@
 //! Routines by rising entry.
-ghost use Rattle.std.specs.Prelude.{◌≡◌, ◌<◌, ◌^◌, [], ◌∷◌, ℕ, Some, length, map, slice_get, IsOk, OnErr, OnOk};
+ghost use Rattle.std.specs.Prelude.{◌≡◌, ◌<◌, ◌^◌, [], ◌∷◌, ℕ, Some, false, length, map, slice_get, true, IsOk, OnErr, OnOk};
 ghost use Rattle.std.specs.List.{All};
 ghost use Rattle.cost_points.specs.Joined.{joined};
 ghost use Rattle.cost_points.specs.Keys.{IsRising};
@@ -48,6 +48,28 @@ pub(crate) fn add_one(
             routine.add_one(ended)
         }
         Err(place) => add_routine(routines, alloc, place, ended.entry, Point::of_one(*ended)),
+    }
+}
+
+/// One more activation, where its routine has a point of its size, and true; else false, and no routine changes.
+#[inline(always)]
+pub(crate) fn add_known(routines: &mut ByKey<RoutinePoints>, ended: &Done) -> bool
+    requires profile { IsProfile (joined routines.old) }
+    requires room { All (λ r. All HasRoom r.points) (joined routines.old) }
+    ensures added { result ≡ true → joined routines.new
+        ≡ with_point ended.now.entry (point_of ended.now.size (ended.now ∷ []))
+        (joined routines.old) }
+    ensures same { result ≡ false → joined routines.new ≡ joined routines.old }
+    ensures known { (at place : ℕ) (r : Routine) → slice_get (joined routines.old) at ≡ Some r
+        → r.entry ≡ ended.now.entry → IsAt (map (λ p. p.size) r.points) ended.now.size place
+        → result ≡ true }
+{
+    match routines.find(u64::from(ended.entry)) {
+        Ok(place) => {
+            let routine = routines.at_mut(place);
+            routine.add_known(ended)
+        }
+        Err(_) => false,
     }
 }
 

@@ -1,5 +1,5 @@
 //! Points by rising size.
-ghost use Rattle.std.specs.Prelude.{◌≡◌, ◌<◌, [], ◌∷◌, ℕ, map, vec_len, IfOk, IsOk, OnOk, OnErr};
+ghost use Rattle.std.specs.Prelude.{◌≡◌, ◌<◌, [], ◌∷◌, ℕ, false, map, true, vec_len, IfOk, IsOk, OnOk, OnErr};
 ghost use Rattle.std.specs.List.{All};
 ghost use Rattle.std.specs.Vec.{vec_capacity};
 ghost use Rattle.cost_points.specs.Joined.{IsFilled, joined};
@@ -127,6 +127,33 @@ fn add_one(points: &mut Vec<Vec<Point>>, last: &mut Place, ended: &Done) -> Resu
     }
 }
 
+// One more activation among blocks of points, where they have one of its size, and true; else false.
+#[inline(always)]
+fn add_known(points: &mut Vec<Vec<Point>>, last: &mut Place, ended: &Done) -> bool
+    requires filled { IsFilled (map (λ b. b.items) points.old.items) }
+    requires rising { IsRising (map (λ p. p.size) (joined (map (λ b. b.items) points.old.items))) }
+    requires room { All HasRoom (joined (map (λ b. b.items) points.old.items)) }
+    ensures added { result ≡ true → joined (map (λ b. b.items) points.new.items)
+        ≡ put (λ q. q.size) ended.now.size (λ q. merged q (point_of ended.now.size (ended.now ∷ [])))
+        (point_of ended.now.size (ended.now ∷ [])) (joined (map (λ b. b.items) points.old.items)) }
+    ensures same { result ≡ false → joined (map (λ b. b.items) points.new.items)
+        ≡ joined (map (λ b. b.items) points.old.items) }
+    ensures filled { IsFilled (map (λ b. b.items) points.new.items) }
+    ensures known { (place : ℕ) → IsAt (map (λ p. p.size) (joined (map (λ b. b.items) points.old.items)))
+        ended.now.size place → result ≡ true }
+{
+    match blocks::find(points, *last, ended.size) {
+        Ok(place) => {
+            *last = place;
+            let block = &mut points[place.block];
+            let point = &mut block[place.at];
+            point.add_one(ended);
+            true
+        }
+        Err(_) => false,
+    }
+}
+
 // The first activation of its size: a new point at its place.
 #[cold]
 #[inline(never)]
@@ -187,6 +214,19 @@ impl SortedPoints {
         ensures no_allocation { (place : ℕ) → IsAt (map (λ p. p.size) self.old) ended.now.size place → IsOk result }
     {
         add_one(&mut self.points, &mut self.last, ended)
+    }
+
+    /// One more activation, where there is a point of its size, and true; else false, and nothing changes.
+    #[inline(always)]
+    pub fn add_known(&mut self, ended: &Done) -> bool
+        requires rising { IsRising (map (λ p. p.size) self.old) }
+        requires room { All HasRoom self.old }
+        ensures added { result ≡ true → self.new ≡ put (λ q. q.size) ended.now.size (λ q. merged q (point_of ended.now.size (ended.now ∷ [])))
+            (point_of ended.now.size (ended.now ∷ [])) self.old }
+        ensures same { result ≡ false → self.new ≡ self.old }
+        ensures known { (place : ℕ) → IsAt (map (λ p. p.size) self.old) ended.now.size place → result ≡ true }
+    {
+        add_known(&mut self.points, &mut self.last, ended)
     }
 
     /// The points, by rising size.

@@ -1,5 +1,5 @@
 //! The table of all routines.
-ghost use Rattle.std.specs.Prelude.{◌≡◌, ◌+◌, ◌<◌, ◌^◌, [], ◌∷◌, ◌++◌, true, is_some, ℕ, List, length, map, slice_get, IfOk, IsOk, OnOk, OnErr};
+ghost use Rattle.std.specs.Prelude.{◌≡◌, ◌+◌, ◌<◌, ◌^◌, [], ◌∷◌, ◌++◌, false, true, is_some, ℕ, List, length, map, slice_get, IfOk, IsOk, OnOk, OnErr};
 ghost use Rattle.std.specs.List.{All};
 ghost use Rattle.trace_model.specs.declared.slow_profile.Done.{Done};
 ghost use Rattle.trace_model.specs.Profile.{HasParts};
@@ -91,6 +91,30 @@ impl Table {
         routines::add_one(&mut self.routines, self.alloc, ended)?;
         self.members += 1;
         Ok(())
+    }
+
+    /// One more activation, where its routine has a point of its size, which needs no memory, and true; else false, and nothing
+    /// changes.
+    #[inline(always)]
+    pub fn add_known(&mut self, ended: &Done) -> bool
+        requires few { self.old.members < 2 ^ 63 }
+        requires parts { HasParts ended.now }
+        ensures added { (added : List Done) → self.old ≡ contents_of added
+            → result ≡ true → self.new ≡ contents_of (added ++ ended.now ∷ []) }
+        ensures routines { result ≡ true → self.new.routines
+            ≡ with_point ended.now.entry (point_of ended.now.size (ended.now ∷ [])) self.old.routines }
+        ensures members { result ≡ true → self.new.members ≡ self.old.members + 1 }
+        ensures same { result ≡ false → self.new ≡ self.old }
+        ensures known { (at place : ℕ) (r : Routine) → slice_get self.old.routines at ≡ Some r
+            → r.entry ≡ ended.now.entry → IsAt (map (λ p. p.size) r.points) ended.now.size place
+            → result ≡ true }
+    {
+        let (_size, _cost) = (ended.size, ended.cost); // so that they are known to be of 64 bits
+        if routines::add_known(&mut self.routines, ended) {
+            self.members += 1;
+            return true;
+        }
+        false
     }
 
     /// One more point of the routine at the entry: the activations of another table's point. A refused one changes nothing.

@@ -1,7 +1,7 @@
 -- The profile of a run that goes on.
 use Rattle.std.proofs.Common.{◌≡◌, ℕ, zero, suc, ◌+◌, ◌<◌, ◌≤◌, ◌^◌, Bool, true, false, List, [], ◌∷◌, ◌++◌, refl, sym, ap, subst, ◌∙◌, arith}
-use Rattle.std.specs.Prelude.{not, None, Some}
-use Rattle.std.specs.Option.{option_to_list}
+use Rattle.std.specs.Prelude.{not, None, Option, Some, is_some}
+use Rattle.std.specs.Option.{option_map_or, option_to_list}
 use Rattle.trace_model.specs.declared.event_kinds.Event.{Event}
 use Rattle.trace_model.specs.declared.event_kinds.Event.TheVariants.{Step}
 use Rattle.trace_model.specs.declared.slow_profile.Done.{Done}
@@ -17,7 +17,7 @@ use Rattle.shadow_core.specs.State.{State, table_of_state}
 use Rattle.stamp_table.specs.Table.{Table}
 use Rattle.stamp_table.proofs.Deep.{deep_does_not_fit}
 use Rattle.run_profile.specs.Keeping.{MayKeep}
-use Rattle.run_profile.specs.Profile.{IsOfFormed, IsProfileOf, KeptRun, ended_at}
+use Rattle.run_profile.specs.Profile.{IsOfFormed, IsProfileOf, KeptRun, ended_at, waiting}
 
 -- ---- Counts are small.
 steps-le-weight : (past : List Event) → steps past ≤ weight past
@@ -49,6 +49,10 @@ module _ (most : ℕ) {K : Type 0} (Holds : K → List Event → List Done → T
   pub is_deep : (e : Event) → is_within most (e ∷ past) ≡ false → is_too_deep most e past ≡ true
   is_deep e is = deep_does_not_fit most e (table_of_state k.stamps) past p.stands ∙ ap not is
 
+pub not_some : {X : Type 0} (o : Option X) → is_some o ≡ false → o ≡ None
+not_some None is = refl
+not_some (Some x) is = absurd (cc)
+
 -- ---- The keeper takes the newest event.
 module _ (most : ℕ) {K : Type 0} (Holds : K → List Event → List Done → Type 0) (k : KeptRun K) (past : List Event) (p : IsProfileOf most Holds k past) where
   -- it is still to take it
@@ -56,14 +60,21 @@ module _ (most : ℕ) {K : Type 0} (Holds : K → List Event → List Done → T
     pub newest : past ≡ e ∷ p.earlier
     newest = p.all ∙ ap (λ o. option_to_list o ++ p.earlier) some
 
+    waits_all : waiting k ≡ k.ended
+    waits_all = ap (λ (o : Option Event). option_map_or (λ x. k.ended) o []) some
+
     pub ends : k.ended ≡ ended e p.earlier
-    ends = p.ended_is ∙ ap (λ o. ended_at o p.earlier) some
+    ends = sym waits_all ∙ p.ended_is ∙ ap (λ o. ended_at o p.earlier) some
+
+    -- what it holds
+    pub held : Holds k.kept p.earlier k.ended
+    held = subst (Holds k.kept p.earlier) waits_all p.kept
 
     pub may_keep : IsWellFormed past → MayKeep Holds k.kept k.ended e k.ended
-    may_keep formed = record { past = p.earlier; now = p.kept; formed = subst IsWellFormed newest formed; ends_are = ends }
+    may_keep formed = record { past = p.earlier; now = held; formed = subst IsWellFormed newest formed; ends_are = ends }
 
     -- it took it
-    pub kept : (kept : K) → Holds kept (e ∷ p.earlier) [] → IsProfileOf most Holds (record k { kept = kept; next = None; ended = [] }) past
+    pub kept : (kept : K) → Holds kept (e ∷ p.earlier) [] → IsProfileOf most Holds (record k { kept = kept; next = None }) past
     kept new holds = record {
       stands = p.stands;
       earlier = past;
@@ -80,7 +91,7 @@ module _ (most : ℕ) {K : Type 0} (Holds : K → List Event → List Done → T
       earlier = p.earlier;
       all = p.all;
       ended_is = p.ended_is;
-      kept = holds;
+      kept = subst (Holds new p.earlier) (sym waits_all) holds;
       steps_are = p.steps_are;
     }
 
@@ -89,32 +100,44 @@ module _ (most : ℕ) {K : Type 0} (Holds : K → List Event → List Done → T
     pub same : past ≡ p.earlier
     same = p.all ∙ ap (λ o. option_to_list o ++ p.earlier) none
 
-    pub empty : k.ended ≡ []
-    empty = p.ended_is ∙ ap (λ o. ended_at o p.earlier) none
+    empty : waiting k ≡ []
+    empty = ap (λ (o : Option Event). option_map_or (λ x. k.ended) o []) none
 
     pub settled : Holds k.kept past []
     settled = subst (λ events. Holds k.kept events []) (sym same) (subst (Holds k.kept p.earlier) empty p.kept)
 
+    -- then it does not matter what ended last
+    pub cleared : (ends : List Done) → IsProfileOf most Holds (record k { ended = ends }) past
+    cleared ends = record {
+      stands = p.stands;
+      earlier = p.earlier;
+      all = p.all;
+      ended_is = ap (λ (o : Option Event). option_map_or (λ x. ends) o []) none ∙ sym empty ∙ p.ended_is;
+      kept = subst (Holds k.kept p.earlier) (empty ∙ sym (ap (λ (o : Option Event). option_map_or (λ x. ends) o []) none)) p.kept;
+      steps_are = p.steps_are;
+    }
+
     -- ---- One event more.
-    module _ (e : Event) (new : State) (after : List Done) (taken : IsTaken most e past new k.ended after) where
+    module _ (e : Event) (new : State) (before after : List Done) (none_yet : before ≡ []) (taken : IsTaken most e past new before after) where
       pub recorded : after ≡ ended e past
-      recorded = taken.recorded ∙ ap (λ (ds : List Done). ds ++ ended e past) empty
+      recorded = taken.recorded ∙ ap (λ (ds : List Done). ds ++ ended e past) none_yet
 
       module _ (kept : K) (more : ℕ) (adds : more ≡ steps (e ∷ [])) where
         -- the keeper took it
-        pub passed : after ≡ [] → Holds kept (e ∷ past) [] →
-            IsProfileOf most Holds (record k { stamps = new; kept = kept; ended = after; steps = k.steps + more }) (e ∷ past) × (is_within most (e ∷ past) ≡ true)
-        passed nothing holds = (
-          record {
-            stands = taken.stands;
-            earlier = e ∷ past;
-            all = sym (ap (λ o. option_to_list o ++ (e ∷ past)) none);
-            ended_is = nothing ∙ sym (ap (λ o. ended_at o (e ∷ past)) none);
-            kept = subst (Holds kept (e ∷ past)) (sym nothing) holds;
-            steps_are = omega (arith, p.steps_are, adds, one_more e past);
-          },
-          taken.fits,
-        )
+        pub passed : (last : List Done) → Holds kept (e ∷ past) [] →
+            IsProfileOf most Holds (record k { stamps = new; kept = kept; ended = last; steps = k.steps + more }) (e ∷ past) × (is_within most (e ∷ past) ≡ true)
+        passed last holds =
+            let nothing : option_map_or (λ (x : Event). last) k.next [] ≡ [] = ap (λ (o : Option Event). option_map_or (λ x. last) o []) none in (
+              record {
+                stands = taken.stands;
+                earlier = e ∷ past;
+                all = sym (ap (λ o. option_to_list o ++ (e ∷ past)) none);
+                ended_is = nothing ∙ sym (ap (λ o. ended_at o (e ∷ past)) none);
+                kept = subst (Holds kept (e ∷ past)) (sym nothing) holds;
+                steps_are = omega (arith, p.steps_are, adds, one_more e past);
+              },
+              taken.fits,
+            )
 
         -- it is still to take it
         pub waits : Holds kept past after →
@@ -132,14 +155,15 @@ module _ (most : ℕ) {K : Type 0} (Holds : K → List Event → List Done → T
         )
 
     -- the profiler refused it
-    pub not_taken : (new : State) (after : List Done) → table_of_state new ≡ table_of_state k.stamps → after ≡ k.ended →
+    pub not_taken : (new : State) (after : List Done) → table_of_state new ≡ table_of_state k.stamps →
         IsProfileOf most Holds (record k { stamps = new; ended = after }) past
-    not_taken new after same_table kept_ended = record {
+    unfolding cleared
+    not_taken new after same_table = record {
       stands = subst (λ (table : Table). Stands most table past) (sym same_table) p.stands;
       earlier = p.earlier;
       all = p.all;
-      ended_is = kept_ended ∙ p.ended_is;
-      kept = subst (Holds k.kept p.earlier) (sym kept_ended) p.kept;
+      ended_is = (cleared after).ended_is;
+      kept = (cleared after).kept;
       steps_are = p.steps_are;
     }
 
@@ -168,7 +192,7 @@ stepped most Holds t n k new kept past p none stands holds = record {
   stands = stands;
   earlier = with_steps t n past;
   all = sym (ap (λ o. option_to_list o ++ with_steps t n past) none);
-  ended_is = empty most Holds k past p none ∙ sym (ap (λ o. ended_at o (with_steps t n past)) none);
-  kept = subst (Holds kept (with_steps t n past)) (sym (empty most Holds k past p none)) holds;
+  ended_is = ap (λ (o : Option Event). option_map_or (λ x. k.ended) o []) none ∙ sym (ap (λ o. ended_at o (with_steps t n past)) none);
+  kept = subst (Holds kept (with_steps t n past)) (sym (ap (λ (o : Option Event). option_map_or (λ x. k.ended) o []) none)) holds;
   steps_are = omega (arith, p.steps_are, steps_more t n past);
 }

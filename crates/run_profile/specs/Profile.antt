@@ -1,6 +1,6 @@
 -- The profile of a run, by its past, the list of its events with the newest first.
 use Rattle.std.specs.Prelude.{◌≡◌, ℕ, List, [], ◌++◌, Option, Some, None}
-use Rattle.std.specs.Option.{option_to_list}
+use Rattle.std.specs.Option.{option_map_or, option_to_list}
 use Rattle.trace_model.specs.declared.event_kinds.Event.{Event}
 use Rattle.trace_model.specs.declared.slow_profile.Done.{Done}
 use Rattle.trace_model.specs.Depth.{pending}
@@ -27,14 +27,18 @@ abbrev pub ended_at : Option Event → List Event → List Done
 ended_at None past = []
 ended_at (Some e) past = ended e past
 
+-- what the keeper is still to take of what ended at the newest event
+abbrev pub waiting : {K : Type 0} → KeptRun K → List Done
+waiting run = option_map_or (λ e. run.ended) run.next []
+
 -- It is that of this past, where the greatest stamp is `most` and the keeper holds what it has taken.
 pub record IsProfileOf (most : ℕ) {K : Type 0} (Holds : K → List Event → List Done → Type 0) (run : KeptRun K) (past : List Event) : Type 0 where
   pub stands : StandsFor most run.stamps past
   -- the events that the keeper has taken
   pub earlier : List Event
   pub all : past ≡ option_to_list run.next ++ earlier
-  pub ended_is : run.ended ≡ ended_at run.next earlier
-  pub kept : Holds run.kept earlier run.ended
+  pub ended_is : waiting run ≡ ended_at run.next earlier
+  pub kept : Holds run.kept earlier (waiting run)
   pub steps_are : run.steps ≡ steps past
 
 -- It is that of some past that a run can have.

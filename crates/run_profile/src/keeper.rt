@@ -1,5 +1,5 @@
 //! What keeps the activations of a run that ended.
-ghost use Rattle.std.specs.Prelude.{◌≡◌, ◌≤◌, [], ◌∷◌, ℕ, List, true, IsOk, OnErr, OnOk};
+ghost use Rattle.std.specs.Prelude.{◌≡◌, ◌≤◌, [], ◌∷◌, ℕ, List, false, IsOk, OnErr, OnOk};
 ghost use Rattle.trace_model.specs.declared.event_kinds.Event.{Event};
 ghost use Rattle.trace_model.specs.declared.slow_profile.Done.{Done};
 ghost use Rattle.trace_model.specs.Observing.{with_steps};
@@ -20,12 +20,14 @@ pub trait Keeper: Drop {
     /// A past that is too much for it: it keeps nothing of that.
     ghost is_too_much: { List Event → Type 0 };
 
-    /// Takes the event and answers `true` if that needs no memory. Otherwise the event is left for `take`.
+    /// Takes the event, with what ended at it, and answers `true` if that needs no memory. Otherwise the event is left for `take`,
+    /// with all that ended.
     fn pass(&mut self, e: &Event, ends: &[Done]) -> bool
         requires { MayKeep holds self.old [] e.now ends.now }
         ensures passes { (past : List Event) → holds self.old past [] → ends.now ≡ ended e.now past
             → Passes holds self.new e.now past ends.now result }
-        ensures nothing { result ≡ true → ends.now ≡ [] };
+        ensures nothing { result ≡ false → (past : List Event) → holds self.old past []
+            → holds self.new past [] };
 
     /// Takes the event. After an `Err` it may hold the first few of the activations; called again, it takes the rest.
     fn take(&mut self, e: Event, ends: &[Done]) -> Result<(), AllocError>

@@ -1,11 +1,11 @@
 //! The points of the activations that ended.
-ghost use Rattle.std.specs.Prelude.{◌≡◌, ◌≤◌, ◌<◌, ◌+◌, ◌^◌, ◌++◌, [], ℕ, List, length, take, IfOk, OnOk};
+ghost use Rattle.std.specs.Prelude.{◌≡◌, ◌≤◌, ◌<◌, ◌+◌, ◌^◌, ◌++◌, [], ℕ, List, false, length, take, true, IfOk, OnOk};
 ghost use Rattle.std.specs.List.{All};
 ghost use Rattle.trace_model.specs.declared.event_kinds.Event.{Event};
 ghost use Rattle.trace_model.specs.declared.slow_profile.Done.{Done};
 ghost use Rattle.trace_model.specs.Profile.{HasParts};
 ghost use Rattle.cost_points.specs.Contents.{contents_of};
-ghost use Rattle.run_profile.specs.Points.{HoldsPoints};
+ghost use Rattle.run_profile.specs.Points.{HoldsPoints, may_end};
 ghost use Rattle.run_profile.specs.Profile.{AreCountsOf, AreTotalsOf};
 
 use crate::{Counts, Keeper, Totals};
@@ -50,6 +50,33 @@ fn add_ended(table: &mut Table, ends: &[Done], added: &mut usize) -> Result<(), 
     Ok(())
 }
 
+// Whether the event may end activations.
+#[inline(always)]
+fn may_end(e: &Event) -> bool
+    ensures { result ≡ may_end e.now }
+{
+    match *e {
+        Event::Ret { .. } | Event::End { .. } => true,
+        _ => false,
+    }
+}
+
+// Adds the activation that ended, where that needs no memory, and true; else false, and no point changes.
+#[inline(always)]
+fn pass_ended(table: &mut Table, ends: &[Done]) -> bool
+    requires few { table.old.members + length ends.now < 2 ^ 63 }
+    requires parts { All HasParts ends.now }
+    ensures points { (earlier : List Done) → table.old ≡ contents_of earlier
+        → result ≡ true → table.new ≡ contents_of (earlier ++ ends.now) }
+    ensures same { result ≡ false → table.new ≡ table.old }
+{
+    match ends.len() {
+        0 => true,
+        1 => table.add_known(&ends[0]),
+        _ => false,
+    }
+}
+
 impl Points {
     /// No activation ended so far.
     pub fn new(alloc: Global) -> Result<Points, AllocError>
@@ -79,11 +106,14 @@ impl Keeper for Points {
 
     ghost is_too_much = { λ past. ⊥ };
 
-    // An event that ends no activation changes no point.
+    // An event that ends no activation changes no point. One that ends an activation mostly changes a point that is there.
     #[inline(always)]
     fn pass(&mut self, e: &Event, ends: &[Done]) -> bool {
-        let _ = e;
-        ends.is_empty()
+        if may_end(e) {
+            pass_ended(&mut self.table, ends)
+        } else {
+            true
+        }
     }
 
     #[inline(always)]

@@ -1,6 +1,8 @@
 //! The profile of a run that goes on.
 ghost use Rattle.std.specs.Prelude.{◌≡◌, ◌≤◌, ◌∷◌, [], List, None, true, false, Ok, IfOk, IsOk, OnErr, OnOk};
 ghost use Rattle.trace_model.specs.declared.event_kinds.Event.{Event};
+ghost use Rattle.trace_model.specs.declared.event_kinds.Event.TheVariants.{Ret};
+ghost use Rattle.std.specs.Vec.{vec_capacity};
 ghost use Rattle.trace_model.specs.declared.observer.Observed.{Observed};
 ghost use Rattle.trace_model.specs.Depth.{is_within};
 ghost use Rattle.trace_model.specs.Observing.{MayStepBy, MayTake, Observes, StandsAsBefore, StepsBy};
@@ -8,7 +10,7 @@ ghost use Rattle.trace_model.specs.Profile.{ended, steps};
 ghost use Rattle.run_profile.specs.Profile.{AreCountsOf, IsOfFormed, IsProfileOf};
 
 use crate::{Counts, Keeper};
-use guest_words::Tid;
+use guest_words::{Addr, Tid};
 use shadow_core::{ApplyError, Profiler};
 use stamp_lanes::Lanes;
 use std::alloc::{AllocError, Global};
@@ -21,8 +23,8 @@ use trace_model::{Done, Event, Observed, Observer};
 pub struct Profile<S: Lanes, K: Keeper> {
     profiler: Profiler<S>,
     kept: K,
-    // The newest event, where the keeper is still to take it, and what ended at it: an event that was taken is not refused for
-    // lack of a point or a context.
+    // The newest event, where the keeper is still to take it: an event that was taken is not refused for lack of a point or a
+    // context. And what ended at the newest event.
     next: Option<Event>,
     ended: Vec<Done>,
     steps: u64,
@@ -51,6 +53,17 @@ fn steps_of(e: &Event) -> u64
         Event::Step { .. } => 1,
         _ => 0,
     }
+}
+
+// The list gets one element, for which it has room.
+#[cold]
+#[inline(never)]
+fn make_only(list: &mut Vec<Done>, one: &Done)
+    requires { 1 ≤ vec_capacity list.old }
+    ensures { list.new.items ≡ one.now ∷ [] }
+{
+    list.clear();
+    list.push(*one).unwrap();
 }
 
 impl<S: Lanes, K: Keeper> Profile<S, K> {
@@ -100,7 +113,6 @@ impl<S: Lanes, K: Keeper> Profile<S, K> {
     {
         if let Some(e) = self.next {
             self.kept.take(e, &self.ended)?;
-            self.ended.clear();
             self.next = None;
         }
         Ok(())
@@ -127,6 +139,46 @@ impl<S: Lanes, K: Keeper> Profile<S, K> {
         }
         self.settle_next()?;
         Ok(true)
+    }
+
+    // Takes an event. It stands apart, so that the code of a return that ends one activation is short.
+    #[cold]
+    #[inline(never)]
+    fn observe_apart(&mut self, e: Event) -> Result<Observed, AllocError>
+        requires { MayTake (IsProfileOf S.MAX K.holds) self.old e }
+        ensures observed { IfOk result (Observes (IsProfileOf S.MAX K.holds) (is_within S.MAX) e self.old self.new) }
+        ensures refused { OnErr result (StandsAsBefore (IsProfileOf S.MAX K.holds) self.old self.new) }
+    {
+        self.observe(e)
+    }
+
+    // Takes a return. Mostly it ends one activation, whose record then need not go through the list.
+    #[inline(always)]
+    fn observe_return(&mut self, tid: Tid, target: Addr) -> Result<Observed, AllocError>
+        requires { MayTake (IsProfileOf S.MAX K.holds) self.old (Ret tid target) }
+        ensures observed { IfOk result (Observes (IsProfileOf S.MAX K.holds) (is_within S.MAX) (Ret tid target) self.old self.new) }
+        ensures refused { OnErr result (StandsAsBefore (IsProfileOf S.MAX K.holds) self.old self.new) }
+    {
+        let e = Event::Ret { tid, target };
+        if self.next.is_some() {
+            return self.observe_apart(e);
+        }
+        if self.ended.capacity() < 1 {
+            return self.observe_apart(e);
+        }
+        match self.profiler.return_one(tid, target) {
+            Some(ended) => {
+                let ends = [ended];
+                self.steps += steps_of(&e);
+                if self.kept.pass(&e, &ends) {
+                    return Ok(Observed::Taken);
+                }
+                make_only(&mut self.ended, &ends[0]);
+                self.next = Some(e);
+                Ok(Observed::Taken)
+            }
+            None => self.observe_apart(e),
+        }
     }
 
     /// What was kept of the run, and what was counted.
@@ -183,6 +235,7 @@ impl<S: Lanes, K: Keeper> Observer for Profile<S, K> {
         if !self.make_ready(&e)? {
             return Ok(Observed::Refused);
         }
+        self.ended.clear();
         match self.profiler.apply(e, &mut self.ended) {
             Ok(()) => {
                 self.steps += steps_of(&e);
@@ -193,6 +246,15 @@ impl<S: Lanes, K: Keeper> Observer for Profile<S, K> {
             }
             Err(ApplyError::TooDeep { .. }) => Ok(Observed::Refused),
             Err(ApplyError::Memory) => Err(AllocError),
+        }
+    }
+
+    #[inline(always)]
+    fn observe_after(&mut self, tid: Tid, count: u64, e: Event) -> Result<Observed, AllocError> {
+        self.observe_steps(tid, count)?;
+        match e {
+            Event::Ret { tid, target } => self.observe_return(tid, target),
+            _ => self.observe(e),
         }
     }
 

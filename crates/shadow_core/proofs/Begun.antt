@@ -1,6 +1,11 @@
 -- Calls and starts of a profiler.
-use Rattle.std.proofs.Common.{◌≡◌, ℕ, ◌+◌, ◌<◌, true, List, [], ◌∷◌, ◌++◌, refl, sym, ap, subst, ◌∙◌, Some, arith}
-use Rattle.std.specs.Prelude.{All, Option, is_some, reverse}
+use Rattle.std.proofs.Common.{◌≡◌, ℕ, ◌+◌, ◌*◌, ◌<◌, Bool, true, false, cond, length, List, [], ◌∷◌, ◌++◌, refl, sym, ap, subst, ◌∙◌, Some, arith}
+use Rattle.std.specs.Prelude.{All, Option, is_some, nat_lt, reverse}
+use Rattle.std.proofs.lemmas.Bool.Decides.{nat_tests}
+use Rattle.stamp_renumber.proofs.Changed.{unchanged}
+use Rattle.stamp_renumber.specs.declared.ticks.Ticked.{Ticked}
+use Rattle.stamp_renumber.specs.Threads.{all_starts}
+use Rattle.shadow_core.proofs.Advanced.{advanced, clock_after}
 use Rattle.std.specs.Option.{option_map_or}
 use Rattle.std.proofs.lemmas.List.{reverse-reverse}
 use Rattle.std.proofs.lemmas.List.Elements.{All-cons, All-nil, All-weaker}
@@ -117,3 +122,25 @@ pub advance_with_room : (most : ℕ) (e : Event) (t : ℕ) (s now : State) (was 
 advance_with_room most e t s now was more is may has roomy =
     may_advance most e (record s { live = more })
     (may_same most e s (record s { live = more }) (frame_room s t was more has roomy) (subst (λ (k : State). MayTake (StandsFor most) k e) (sym is) may))
+
+-- ---- Where there is room, and the counter is not at its end.
+module _ (most : ℕ) (e : Event) (t : ℕ) (s now : State) (was : Stamped) (is : s ≡ now) (may : MayTake (StandsFor most) now e) (has : Has s t was) (low : s.counter < most) where
+  pub has_it : IsRoomy s.live t s.live
+  has_it = record { threads = unchanged s.live.threads t (ap is_some has.stamps); list = refl; counts = refl }
+
+  -- the counter went on by one
+  abbrev pub clock_on : Clock
+  clock_on = record { counter = s.counter + 1; writes = s.writes; live = s.live; renumbered = s.renumbered }
+
+  clock_is : clock_after most (clock_with s s.live) s.live s.writes ≡ clock_on
+  clock_is =
+      let under : nat_lt s.counter most ≡ true = grind (arith, nat_tests, low) in
+      ap (λ (b : Bool). let answer = cond {A = Ticked} b (record { counter = s.counter + 1; renewed = false }) (record { counter = 3 * length (all_starts s.live.threads) + 3; renewed = true }) in
+          record { counter = answer.counter; writes = s.writes; live = s.live; renumbered = s.renumbered + cond answer.renewed 1 0 }) under
+      ∙ ap (λ n. record clock_on { renumbered = n }) (omega arith)
+
+  pub goes_on : IsAdvanced most true (clock_with s s.live) clock_on
+  goes_on =
+      let can = advance_with_room most e t s now was s.live is may has has_it in
+      subst (IsAdvanced most true (clock_with s s.live)) clock_is
+      (advanced most (clock_with s s.live) s.live s.writes can.within can.room can.rising (λ below. (refl, refl)) (λ top. absurd (omega (arith, top, low))))

@@ -123,6 +123,9 @@ may_pop live t can = fits_pop (frames_of live.threads t) (sums_left t 0 0 live l
 pub same_calls : (live : Live) (t : ℕ) (k : Calls) → is_some (value_of live.threads t) ≡ true → k ≡ calls_of live.threads t → with_calls live t k ≡ live
 same_calls live t k lives same = ap (with_calls live t) same ∙ (λ i. record live { threads = sym (unchanged live.threads t lives) i })
 
+pub as_before : (s old : State) → s ≡ old → (live : Live) → live ≡ s.live → record s { live = live } ≡ old
+as_before s old is live same = ap (λ (l : Live). record s { live = l }) same ∙ is
+
 pub left_as_before : (s old : State) → s ≡ old → (live : Live) → live ≡ s.live → table_of_state (record s { live = live }) ≡ table_of_state old
 left_as_before s old is live same = ap (λ (l : Live). table_of_state (record s { live = l })) same ∙ ap table_of_state is
 

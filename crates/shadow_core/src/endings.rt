@@ -43,9 +43,19 @@ fn done_with(tid: Tid, counts: ThreadCounts, sums: Sums, call: BegunCall) -> Don
     }
 }
 
-/// Records a call of the thread that ended. There is room for the record.
+/// What is recorded of a call of the thread that ended.
 #[inline(always)]
-pub(crate) fn record_call(tid: Tid, ended: EndedCall, done: &mut Vec<Done>)
+pub(crate) fn record_of(tid: Tid, ended: EndedCall) -> Done
+    requires thread { ended.counts.thread < 2 ^ 62 }
+    requires kernel { ended.counts.kernel < 2 ^ 62 }
+    ensures { result ≡ record_of tid ended.counts ended.sums ended.call }
+{
+    done_with(tid, ended.counts, ended.sums, ended.call)
+}
+
+// Records a call of the thread that ended. There is room for the record.
+#[inline(always)]
+fn record_call(tid: Tid, ended: EndedCall, done: &mut Vec<Done>)
     requires thread { ended.counts.thread < 2 ^ 62 }
     requires kernel { ended.counts.kernel < 2 ^ 62 }
     requires room { vec_len done.old + 1 ≤ vec_capacity done.old }
@@ -54,7 +64,7 @@ pub(crate) fn record_call(tid: Tid, ended: EndedCall, done: &mut Vec<Done>)
     ensures capacity { vec_capacity done.old ≤ vec_capacity done.new }
     ensures count { vec_len done.new ≡ vec_len done.old + 1 }
 {
-    let recorded = done_with(tid, ended.counts, ended.sums, ended.call);
+    let recorded = record_of(tid, ended);
     done.push(recorded).unwrap();
 }
 

@@ -1,5 +1,5 @@
 //! The online profiler.
-ghost use Rattle.std.specs.Prelude.{◌≡◌, ◌≤◌, ◌+◌, ◌*◌, ◌++◌, [], List, Some, map, nat_lt, true, false, vec_len, Err, IfErr, IfOk, IsOk, OnErr, OnOk, length};
+ghost use Rattle.std.specs.Prelude.{◌≡◌, ◌==◌, ◌≤◌, ◌+◌, ◌*◌, ◌++◌, ◌∷◌, [], List, Some, map, nat_lt, true, false, vec_len, Err, IfErr, IfNone, IfOk, IfSome, IsOk, OnErr, OnOk, length};
 ghost use Rattle.trace_model.specs.declared.event_kinds.Event.{Event};
 ghost use Rattle.trace_model.specs.declared.event_kinds.Event.TheVariants.{Call, End, Fill, Read, Ret, Start, Step, Write};
 ghost use Rattle.std.specs.Vec.{vec_capacity};
@@ -23,7 +23,7 @@ ghost use Rattle.stamp_table.specs.Ticks.{is_switch, table_after, table_after_st
 use crate::ApplyError;
 use crate::advance::advance;
 use crate::cover::{add_with_room, cover, cover_own};
-use crate::endings::{end_calls, record_call};
+use crate::endings::{end_calls, record_of};
 use crate::reads::{Access, access_of, read, read_at};
 use crate::rows::ZeroRows;
 use crate::writes::{fill, is_written, write};
@@ -316,9 +316,28 @@ impl<S: Lanes> Profiler<S> {
         Ok(())
     }
 
-    // A call by the thread that runs.
-    #[inline(never)]
+    // A call by the thread that runs. Mostly there is room for it, and the counter is not at its end.
+    #[inline(always)]
     fn call(&mut self, tid: Tid, entry: Addr, back: Addr) -> Result<(), AllocError>
+        requires { MayTake (StandsFor S.MAX) self.old (Call tid entry back) }
+        ensures table { OnOk result (table_of_state self.new
+            ≡ table_after (bounded_tick S.MAX) (Call tid entry back) (table_of_state self.old)) }
+        ensures refused { OnErr result (table_of_state self.new ≡ table_of_state self.old) }
+    {
+        if self.counter < S::MAX && self.threads.has_room(tid) {
+            self.counter += 1;
+            let now = S::from_number(self.counter);
+            self.threads.begin(tid, now, entry, Some(back));
+            self.weight += 1;
+            return Ok(());
+        }
+        self.call_anew(tid, entry, back)
+    }
+
+    // The same, where the stamps may be renumbered and memory may be wanted.
+    #[cold]
+    #[inline(never)]
+    fn call_anew(&mut self, tid: Tid, entry: Addr, back: Addr) -> Result<(), AllocError>
         requires { MayTake (StandsFor S.MAX) self.old (Call tid entry back) }
         ensures table { OnOk result (table_of_state self.new
             ≡ table_after (bounded_tick S.MAX) (Call tid entry back) (table_of_state self.old)) }
@@ -339,7 +358,7 @@ impl<S: Lanes> Profiler<S> {
     }
 
     // A return of the thread that runs: the calls that it ends are recorded.
-    #[inline(never)]
+    #[inline(always)]
     fn return_to(&mut self, tid: Tid, target: Addr, done: &mut Vec<Done>) -> Result<(), AllocError>
         requires { MayTake (StandsFor S.MAX) self.old (Ret tid target) }
         ensures table { OnOk result (table_of_state self.new
@@ -381,22 +400,40 @@ impl<S: Lanes> Profiler<S> {
             ≤ vec_capacity done.old → IsOk result }
         ensures pages { HasSamePages self.old self.new }
     {
-        match self.threads.return_to(tid, target) {
-            Returned::One(ended) => {
-                record_call(tid, ended, done);
-                self.weight += 1;
+        match self.return_one(tid, target) {
+            Some(ended) => {
+                done.push(ended).unwrap();
                 Ok(())
             }
-            Returned::Many(count) => {
-                done.reserve(count)?;
-                end_calls(&mut self.threads, tid, count, done);
-                self.weight += 1;
-                Ok(())
-            }
+            None => self.return_full(tid, target, done),
         }
     }
 
-    // The same, where the list may have none.
+    /// Takes a return of the thread that runs, where it ends one activation, and says what is recorded of that. Where it ends none
+    /// or several, nothing changes. It does not allocate.
+    #[inline(always)]
+    pub fn return_one(&mut self, tid: Tid, target: Addr) -> Option<Done>
+        requires { MayTake (StandsFor S.MAX) self.old (Ret tid target) }
+        ensures table { IfSome result (λ ended. table_of_state self.new
+            ≡ table_after (bounded_tick S.MAX) (Ret tid target) (table_of_state self.old)) }
+        ensures records { IfSome result (λ ended. ended ∷ [] ≡ finished (Ret tid target) (table_of_state self.old)) }
+        ensures stands { (past : List Event) → StandsFor S.MAX self.old past
+            → IfSome result (λ ended. IsTaken S.MAX (Ret tid target) past self.new [] (ended ∷ [])) }
+        ensures others { IfNone result ((count_returned target
+            (map (λ (c : CountedCall). c.back) (calls_of self.old.live.threads tid).list) == 1) ≡ false) }
+        ensures same { IfNone result (self.new ≡ self.old) }
+        ensures pages { HasSamePages self.old self.new }
+    {
+        match self.threads.return_to(tid, target) {
+            Returned::One(ended) => {
+                self.weight += 1;
+                Some(record_of(tid, ended))
+            }
+            Returned::Many(_) => None,
+        }
+    }
+
+    // The same, where the list may have none, or the return ends several calls or none.
     #[cold]
     #[inline(never)]
     fn return_full(

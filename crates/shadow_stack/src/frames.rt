@@ -1,9 +1,10 @@
 //! The frames and their search.
-ghost use Rattle.std.specs.Prelude.{◌≡◌, ◌≤◌, ◌<◌, ◌+◌, ◌-◌, ◌*◌, ◌^◌, ◌++◌, ◌∷◌, [], ℕ, length, map, All, IfSome, IsOk, Some, OnOk, OnErr, slice_get, slice_index};
+ghost use Rattle.std.specs.Prelude.{◌≡◌, ◌≤◌, ◌<◌, ◌+◌, ◌-◌, ◌*◌, ◌^◌, ◌++◌, ◌∷◌, [], ℕ, length, map, All, IfSome, IsOk, Some, OnOk, OnErr, nat_lt, slice_get, slice_index};
 ghost use Rattle.std.specs.Option.{option_map_or};
 ghost use Rattle.shadow_stack.specs.Frames.{FitsPop, FitsSums, IsLastAtMost, IsMoved, IsPopped, IsRising, added, new_frame, plus, restarted, starts_of};
 
 use crate::{Steps, Sums};
+use room_stack::RoomStack;
 use stamps::Stamp;
 use std::alloc::{AllocError, Global};
 use std::marker::{Brand, Model};
@@ -20,19 +21,18 @@ struct Frame<S: Stamp> {
 /// lowers the room.
 #[derive(Drop)]
 pub struct Frames<S: Stamp> {
-    frames: Vec<Frame<S>>,
+    frames: RoomStack<Frame<S>>,
 }
 
 impl<S: Stamp> Model for Frames<S> {
-    ghost use Rattle.std.specs.Prelude.{◌-◌, map, vec_len};
-    ghost use Rattle.std.specs.Vec.{vec_capacity};
+    ghost use Rattle.std.specs.Prelude.{map};
     ghost use Rattle.shadow_stack.specs.Frames.{IsRising, Stack};
 
     ghost Value = { Stack };
 
     ghost view = { λ f. record {
       list = map (λ x. record { start = S.number_of x.start; sums = x.sums }) f.frames.items;
-      spare = vec_capacity f.frames - vec_len f.frames;
+      spare = f.frames.spare;
     } };
 
     ghost invariant = { λ f. IsRising (map (λ x. S.number_of x.start) f.frames.items) };
@@ -44,7 +44,7 @@ impl<S: Stamp> Frames<S> {
         ensures { result.list ≡ [] }
     {
         Frames {
-            frames: Vec::new(alloc),
+            frames: RoomStack::new(alloc),
         }
     }
 
@@ -61,7 +61,7 @@ impl<S: Stamp> Frames<S> {
         ensures start { S.number_of result ≡ slice_index (starts_of self.now.list) i }
         ensures rising { IsRising (starts_of self.now.list) }
     {
-        self.frames[i].start
+        self.frames.as_slice()[i].start
     }
 
     /// Makes the room for one more frame.
@@ -70,10 +70,19 @@ impl<S: Stamp> Frames<S> {
         ensures list { self.new.list ≡ self.old.list }
         ensures kept { self.old.spare ≤ self.new.spare }
     {
-        self.frames.reserve(1)
+        self.frames.reserve()
+    }
+
+    /// Whether there is room for one more frame.
+    #[inline(always)]
+    pub fn has_room(&self) -> bool
+        ensures { result ≡ nat_lt 0 self.now.spare }
+    {
+        self.frames.has_room()
     }
 
     /// One more frame inside all the others, with no sums. It is not refused where there is room.
+    #[inline(always)]
     pub fn push(&mut self, start: S) -> Result<(), AllocError>
         requires { All (λ s. s < S.number_of start) (starts_of self.old.list) }
         ensures ok { OnOk result (self.new.list
@@ -90,14 +99,16 @@ impl<S: Stamp> Frames<S> {
     }
 
     /// Adds to the sums of the frame at the place.
+    #[inline(always)]
     pub fn add(&mut self, i: usize, by: Sums)
         requires within { i < length self.old.list }
         requires fits { IfSome (slice_get self.old.list i) (λ f. FitsSums (plus f.sums by)) }
         ensures list { self.new.list ≡ added i by self.old.list }
         ensures kept { self.old.spare ≤ self.new.spare }
     {
-        let frame = &mut self.frames[i];
-        frame.sums = frame.sums.plus(by);
+        let frame = self.frames.as_slice()[i];
+        let sums = frame.sums.plus(by);
+        self.frames.set(i, Frame { sums, ..frame });
     }
 
     // Adds to the sums of the frame at the place, if there is one.
@@ -147,6 +158,7 @@ impl<S: Stamp> Frames<S> {
     }
 
     /// Takes the innermost frame, and hands its sums down: they are added to the frame below, if there is one.
+    #[inline(always)]
     pub fn pop(&mut self) -> Option<Sums>
         requires { FitsPop self.old.list }
         ensures popped { IsPopped self.old.list result self.new.list }
@@ -175,21 +187,22 @@ impl<S: Stamp> Frames<S> {
         ensures found { IsLastAtMost (starts_of self.now.list) (S.number_of stamp) result }
         ensures cost { 2 ^ (steps.new - steps.old) ≤ 2 * length self.now.list + 1 }
     {
-        first_above(&self.frames, stamp.number(), steps).checked_sub(1)
+        first_above(self.frames.as_slice(), stamp.number(), steps).checked_sub(1)
     }
 }
 
 // Gives each frame its new start.
-fn restart<S: Stamp>(frames: &mut [Frame<S>], starts: &[S])
-    requires { length starts.now ≡ length frames.old }
-    ensures list { map (λ x. record { start = S.number_of x.start; sums = x.sums }) frames.new
+fn restart<S: Stamp>(frames: &mut RoomStack<Frame<S>>, starts: &[S])
+    requires { length starts.now ≡ length frames.old.items }
+    ensures list { map (λ x. record { start = S.number_of x.start; sums = x.sums }) frames.new.items
         ≡ restarted (map S.number_of starts.now)
-        (map (λ x. record { start = S.number_of x.start; sums = x.sums }) frames.old) }
-    ensures length { length frames.new ≡ length frames.old }
+        (map (λ x. record { start = S.number_of x.start; sums = x.sums }) frames.old.items) }
+    ensures spare { frames.new.spare ≡ frames.old.spare }
 {
     for i in 0..frames.len() {
-        let frame = &mut frames[i];
-        frame.start = starts[i];
+        let frame = frames.as_slice()[i];
+        let start = starts[i];
+        frames.set(i, Frame { start, ..frame });
     }
 }
 

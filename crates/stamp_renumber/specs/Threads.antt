@@ -1,5 +1,5 @@
 -- The live threads, with their frames, their calls and the stamps of their accesses.
-use Rattle.std.specs.Prelude.{ℕ, ◌≤◌, List, []}
+use Rattle.std.specs.Prelude.{ℕ, ◌≤◌, ◌&&◌, Bool, List, [], nat_lt}
 use Rattle.std.specs.List.{flat_map}
 use Rattle.std.specs.Option.{option_map_or}
 use Rattle.shadow_stack.specs.Frames.{Frame, starts_of}
@@ -43,6 +43,9 @@ calls_of threads t = option_map_or (λ (s : Stamped). s.calls) (value_of threads
 -- there is room for one more frame of the thread, for its mark and for its call
 abbrev pub HasRoom : Live → ℕ → Type 0
 HasRoom live t = (1 ≤ spare_of live.threads t) × (1 ≤ (calls_of live.threads t).spare) × (1 ≤ live.marks)
+
+abbrev pub has_room : Live → ℕ → Bool
+has_room live t = nat_lt 0 live.marks && (nat_lt 0 (spare_of live.threads t) && nat_lt 0 (calls_of live.threads t).spare)
 
 -- a thread with these frames and pages, and the room and the calls that it has among the threads
 abbrev pub stamped : List (ℕ × Stamped) → ℕ → List Frame → List Page → Stamped

@@ -1,5 +1,5 @@
 //! What is kept of a thread.
-ghost use Rattle.std.specs.Prelude.{◌≡◌, ◌≤◌, ◌<◌, ◌+◌, ◌*◌, ◌++◌, ◌∷◌, [], ℕ, All, Contains, IfOk, IfSome, OnOk, Some, length, map, slice_get};
+ghost use Rattle.std.specs.Prelude.{◌≡◌, ◌&&◌, ◌≤◌, ◌<◌, ◌+◌, ◌*◌, ◌++◌, ◌∷◌, [], ℕ, All, Contains, IfOk, IfSome, OnOk, Some, length, map, nat_lt, slice_get};
 ghost use Rattle.std.specs.Borrow.{sem};
 ghost use Rattle.std.specs.Vec.{vec_capacity};
 ghost use Rattle.std.specs.List.Sorted.{IsNonDecreasingBy};
@@ -128,6 +128,14 @@ impl<S: Stamp> ThreadStamps<S> {
         self.calls.reserve()
     }
 
+    /// Whether there is room for one more frame and for its call.
+    #[inline(always)]
+    pub(crate) fn has_room(&self) -> bool
+        ensures { result ≡ (nat_lt 0 self.now.spare && nat_lt 0 self.now.calls.spare) }
+    {
+        self.frames.has_room() && self.calls.has_room()
+    }
+
     /// One more frame, with its call. There is room for both.
     #[inline(always)]
     pub(crate) fn push(&mut self, start: S, entry: Addr, back: Option<Addr>)
@@ -142,8 +150,8 @@ impl<S: Stamp> ThreadStamps<S> {
         ensures counts { self.new.calls.counts ≡ self.old.calls.counts }
         ensures lowered { self.old.spare ≤ self.new.spare + 1 }
     {
-        self.calls.push(entry, back).unwrap();
         self.frames.push(start).unwrap();
+        self.calls.push(entry, back).unwrap();
     }
 
     /// Adds to the sums of the frame at the place.

@@ -6,7 +6,7 @@ ghost use Rattle.shadow_stack.specs.Frames.{FitsPop, FitsSums, IsPopped, added, 
 ghost use Rattle.shadow_pages.specs.Pages.{HasPlace};
 ghost use Rattle.call_tracker.specs.ThreadCalls.{no_counts};
 ghost use Rattle.stamp_renumber.specs.Returned.{IsReturned};
-ghost use Rattle.stamp_renumber.specs.Threads.{HasRoom, all_starts, calls_of, frames_of, own_of, pages_of, spare_of, stamped};
+ghost use Rattle.stamp_renumber.specs.Threads.{HasRoom, all_starts, calls_of, frames_of, has_room, own_of, pages_of, spare_of, stamped};
 ghost use Rattle.stamp_renumber.specs.Ticks.{IsRenumbered};
 ghost use Rattle.stamp_renumber.specs.WordRead.{IsWordRead};
 
@@ -126,9 +126,41 @@ impl<S: Lanes> Threads<S> {
         Ok(())
     }
 
+    /// Whether there is room for one more frame of the thread, for its mark and for its call.
+    #[inline(always)]
+    pub fn has_room(&self, tid: Tid) -> bool
+        requires { is_some (value_of self.now.threads tid) ≡ true }
+        ensures value { result ≡ has_room self.now tid }
+        ensures room { result ≡ true → HasRoom self.now tid }
+    {
+        self.marks > 0 && self.threads.get(tid).unwrap().has_room()
+    }
+
     /// Makes the room for one more frame of the thread, for its mark and for its call.
     #[inline(always)]
     pub fn reserve(&mut self, tid: Tid) -> Result<(), AllocError>
+        requires lives { is_some (value_of self.old.threads tid) ≡ true }
+        ensures room { OnOk result (HasRoom self.new tid) }
+        ensures threads { self.new.threads ≡ with_value self.old.threads tid
+            (stamped self.new.threads tid (frames_of self.old.threads tid)
+            (pages_of self.old.threads tid)) }
+        ensures list { (calls_of self.new.threads tid).list
+            ≡ (calls_of self.old.threads tid).list }
+        ensures counts { (calls_of self.new.threads tid).counts
+            ≡ (calls_of self.old.threads tid).counts }
+        ensures kept { spare_of self.old.threads tid ≤ spare_of self.new.threads tid }
+        ensures marks { self.old.marks ≤ self.new.marks }
+    {
+        if self.has_room(tid) {
+            return Ok(());
+        }
+        self.reserve_more(tid)
+    }
+
+    // The same, where there may be none.
+    #[cold]
+    #[inline(never)]
+    fn reserve_more(&mut self, tid: Tid) -> Result<(), AllocError>
         requires lives { is_some (value_of self.old.threads tid) ≡ true }
         ensures room { OnOk result (HasRoom self.new tid) }
         ensures threads { self.new.threads ≡ with_value self.old.threads tid
@@ -315,6 +347,8 @@ impl<S: Lanes> Threads<S> {
     }
 
     /// Gives all stamps their new numbers, and says how many frames there are.
+    #[cold]
+    #[inline(never)]
     pub(crate) fn renumber(&mut self, writes: &mut Shadow<S>) -> usize
         requires { 3 * length (all_starts self.old.threads) + 2 ≤ S.MAX }
         ensures count { result ≡ length (all_starts self.old.threads) }

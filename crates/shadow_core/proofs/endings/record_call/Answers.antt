@@ -7,5 +7,5 @@ use Rattle.shadow_core.proofs.endings.record_call.Goals as goal
 pub returns-clause-recorded : goal.returns-clause-recorded
 returns-clause-recorded c =
     c.push.ensures.items
-    ∙ ap (λ r. if is_ok r then c.args.done.now.items ++ c.done_with-recorded.result ∷ [] else c.args.done.now.items) c.unwrap.ensures
-    ∙ ap (λ (d : Done). c.args.done.now.items ++ d ∷ []) c.done_with-recorded.ensures
+    ∙ ap (λ r. if is_ok r then c.args.done.now.items ++ c.record_of-recorded.result ∷ [] else c.args.done.now.items) c.unwrap.ensures
+    ∙ ap (λ (d : Done). c.args.done.now.items ++ d ∷ []) c.record_of-recorded.ensures

@@ -9,20 +9,22 @@ use Rattle.shadow_stack.proofs.frames.restart.Goals as goal
 pub loop-i-preserved : goal.loop-i-preserved
 loop-i-preserved g c =
     let look : Kept g.row.S.Denot → Frame = seen (λ x. g.S.Stamp.number_of x.start) (λ x. x.sums) in
-    let old : Kept g.row.S.Denot = get_or c.loop-i.frames c.loop-i.i c.index-frames-i.result in
+    let old : Kept g.row.S.Denot = c.index-as_slice-i.result in
     let new : Kept g.row.S.Denot = record { start = c.index-starts-i.result; sums = old.sums } in
     let starts = map g.S.Stamp.number_of c.args.starts.now in
-    let inside : c.loop-i.i < length c.loop-i.frames = omega (arith, c.loop-i-test.true, c.loop-i.invariant.long) in
+    let inside : c.loop-i.i < length c.loop-i.frames.items = omega (arith, c.loop-i-test.true, c.loop-i.invariant.long) in
     let low : c.loop-i.i < length starts = omega (arith, inside, c.loop-i.invariant.long, c.requires, length-map c.args.starts.now g.S.Stamp.number_of) in
-    let high : c.loop-i.i < length (map look c.args.frames.now) = omega (arith, inside, c.loop-i.invariant.long, length-map c.args.frames.now look) in
+    let high : c.loop-i.i < length (map look c.args.frames.now.items) = omega (arith, inside, c.loop-i.invariant.long, length-map c.args.frames.now.items look) in
     let read : slice_index starts c.loop-i.i ≡ g.S.Stamp.number_of c.index-starts-i.result =
     get_or-map g.S.Stamp.number_of c.args.starts.now c.loop-i.i c.index-starts-i.result 0 (omega (arith, low, length-map c.args.starts.now g.S.Stamp.number_of)) ∙ ap g.S.Stamp.number_of (sym c.index-starts-i.is)
     in
     record {
-      long = length-set c.loop-i.frames c.loop-i.i new ∙ c.loop-i.invariant.long;
+      long = ap length c.set.ensures.items ∙ length-set c.loop-i.frames.items c.loop-i.i new ∙ c.loop-i.invariant.long;
+      spare = c.set.ensures.kept ∙ c.loop-i.invariant.spare;
       list =
-          changed-set (λ x. g.S.Stamp.number_of x.start) (λ x. x.sums) c.loop-i.frames c.loop-i.i old new (λ f. record f { start = slice_index starts c.loop-i.i }) inside (ap (λ x. get_or c.loop-i.frames c.loop-i.i x) c.index-frames-i.is) (ap (λ n. record { start = n; sums = old.sums }) (sym read))
+          ap (map look) c.set.ensures.items
+          ∙ changed-set (λ x. g.S.Stamp.number_of x.start) (λ x. x.sums) c.loop-i.frames.items c.loop-i.i old new (λ f. record f { start = slice_index starts c.loop-i.i }) inside (c.index-as_slice-i.is ∙ ap (λ xs. get_or xs c.loop-i.i old) c.as_slice.ensures) (ap (λ n. record { start = n; sums = old.sums }) (sym read))
           ∙ ap (λ fs. changed c.loop-i.i (λ f. record f { start = slice_index starts c.loop-i.i }) fs) c.loop-i.invariant.list
-          ∙ restarted_next starts (map look c.args.frames.now) c.loop-i.i low high
-          ∙ ap (λ n. restarted (take n starts) (map look c.args.frames.now)) (sym (add-one c.loop-i.i));
+          ∙ restarted_next starts (map look c.args.frames.now.items) c.loop-i.i low high
+          ∙ ap (λ n. restarted (take n starts) (map look c.args.frames.now.items)) (sym (add-one c.loop-i.i));
     }

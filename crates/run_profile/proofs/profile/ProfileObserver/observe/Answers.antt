@@ -26,7 +26,7 @@ pass-requires g c =
       formed = c.requires.formed;
       ends_are =
           c.deref.ensures.value
-          ∙ recorded g.S.Stamp.MAX g.K.Keeper.holds _ past p none c.args.e c.apply.new.self c.apply.new.done.items (c.in-Ok.ensures.stands past p.stands);
+          ∙ recorded g.S.Stamp.MAX g.K.Keeper.holds _ past p none c.args.e c.apply.new.self _ c.apply.new.done.items c.clear.ensures.items (c.in-Ok.ensures.stands past p.stands);
     }
 
 pub returns-then-not-pass-clause-observed : goal.returns-then-not-pass-clause-observed
@@ -34,8 +34,8 @@ returns-then-not-pass-clause-observed g c = λ past kept.
     let p = subst (λ (k : KeptRun g.row.K.Denot). IsProfileOf g.S.Stamp.MAX g.K.Keeper.holds k past) (sym c.self.view_is) (c.make_ready.ensures.stands past kept) in
     let none = ap (λ (k : KeptRun g.row.K.Denot). k.next) c.self.view_is ∙ c.in_ok-make_ready.ensures.settled c.if-not-branch.false in
     let taken = c.in-Ok.ensures.stands past p.stands in
-    let ends = recorded g.S.Stamp.MAX g.K.Keeper.holds _ past p none c.args.e c.apply.new.self c.apply.new.done.items taken in
-    waits g.S.Stamp.MAX g.K.Keeper.holds _ past p none c.args.e c.apply.new.self c.apply.new.done.items taken c.pass.new.self c.steps_of.result c.steps_of.ensures
+    let ends = recorded g.S.Stamp.MAX g.K.Keeper.holds _ past p none c.args.e c.apply.new.self _ c.apply.new.done.items c.clear.ensures.items taken in
+    waits g.S.Stamp.MAX g.K.Keeper.holds _ past p none c.args.e c.apply.new.self _ c.apply.new.done.items c.clear.ensures.items taken c.pass.new.self c.steps_of.result c.steps_of.ensures
     (subst (g.K.Keeper.holds c.pass.new.self past) c.deref.ensures.value
     (c.if-not-pass.ensures.passes past (settled g.S.Stamp.MAX g.K.Keeper.holds _ past p none) (c.deref.ensures.value ∙ ends)))
 
@@ -49,16 +49,16 @@ pub returns-then-not-pass-clause-last : goal.returns-then-not-pass-clause-last
 returns-then-not-pass-clause-last g c = λ past kept same.
     let p = subst (λ (k : KeptRun g.row.K.Denot). IsProfileOf g.S.Stamp.MAX g.K.Keeper.holds k past) (sym c.self.view_is) (c.make_ready.ensures.stands past kept) in
     let none = ap (λ (k : KeptRun g.row.K.Denot). k.next) c.self.view_is ∙ c.in_ok-make_ready.ensures.settled c.if-not-branch.false in
-    recorded g.S.Stamp.MAX g.K.Keeper.holds _ past p none c.args.e c.apply.new.self c.apply.new.done.items (c.in-Ok.ensures.stands past p.stands)
+    recorded g.S.Stamp.MAX g.K.Keeper.holds _ past p none c.args.e c.apply.new.self _ c.apply.new.done.items c.clear.ensures.items (c.in-Ok.ensures.stands past p.stands)
 
 pub returns-else-not-pass-clause-observed : goal.returns-else-not-pass-clause-observed
 returns-else-not-pass-clause-observed g c = λ past kept.
     let p = subst (λ (k : KeptRun g.row.K.Denot). IsProfileOf g.S.Stamp.MAX g.K.Keeper.holds k past) (sym c.self.view_is) (c.make_ready.ensures.stands past kept) in
     let none = ap (λ (k : KeptRun g.row.K.Denot). k.next) c.self.view_is ∙ c.in_ok-make_ready.ensures.settled c.if-not-branch.false in
     let taken = c.in-Ok.ensures.stands past p.stands in
-    let ends = recorded g.S.Stamp.MAX g.K.Keeper.holds _ past p none c.args.e c.apply.new.self c.apply.new.done.items taken in
-    passed g.S.Stamp.MAX g.K.Keeper.holds _ past p none c.args.e c.apply.new.self c.apply.new.done.items taken c.pass.new.self c.steps_of.result c.steps_of.ensures
-    (sym c.deref.ensures.value ∙ c.if-not-pass.ensures.nothing refl)
+    let ends = recorded g.S.Stamp.MAX g.K.Keeper.holds _ past p none c.args.e c.apply.new.self _ c.apply.new.done.items c.clear.ensures.items taken in
+    passed g.S.Stamp.MAX g.K.Keeper.holds _ past p none c.args.e c.apply.new.self _ c.apply.new.done.items c.clear.ensures.items taken c.pass.new.self c.steps_of.result c.steps_of.ensures
+    c.apply.new.done.items
     (c.if-not-pass.ensures.passes past (settled g.S.Stamp.MAX g.K.Keeper.holds _ past p none) (c.deref.ensures.value ∙ ends))
 
 pub returns-else-not-pass-clause-too_deep : goal.returns-else-not-pass-clause-too_deep
@@ -71,14 +71,14 @@ pub returns-else-not-pass-clause-last : goal.returns-else-not-pass-clause-last
 returns-else-not-pass-clause-last g c = λ past kept same.
     let p = subst (λ (k : KeptRun g.row.K.Denot). IsProfileOf g.S.Stamp.MAX g.K.Keeper.holds k past) (sym c.self.view_is) (c.make_ready.ensures.stands past kept) in
     let none = ap (λ (k : KeptRun g.row.K.Denot). k.next) c.self.view_is ∙ c.in_ok-make_ready.ensures.settled c.if-not-branch.false in
-    recorded g.S.Stamp.MAX g.K.Keeper.holds _ past p none c.args.e c.apply.new.self c.apply.new.done.items (c.in-Ok.ensures.stands past p.stands)
+    recorded g.S.Stamp.MAX g.K.Keeper.holds _ past p none c.args.e c.apply.new.self _ c.apply.new.done.items c.clear.ensures.items (c.in-Ok.ensures.stands past p.stands)
 
 pub returns-in-Err-TooDeep-clause-observed : goal.returns-in-Err-TooDeep-clause-observed
 returns-in-Err-TooDeep-clause-observed g c = λ past kept.
     let p = subst (λ (k : KeptRun g.row.K.Denot). IsProfileOf g.S.Stamp.MAX g.K.Keeper.holds k past) (sym c.self.view_is) (c.make_ready.ensures.stands past kept) in
     let none = ap (λ (k : KeptRun g.row.K.Denot). k.next) c.self.view_is ∙ c.in_ok-make_ready.ensures.settled c.if-not-branch.false in
     let out = refused g.S.Stamp.MAX g.K.Keeper.holds _ past p c.args.e (λ shallow. absurd (let no = c.in-Err-TooDeep.ensures.not_deep past p.stands shallow in cc)) in
-    (not_taken g.S.Stamp.MAX g.K.Keeper.holds _ past p none c.apply.new.self c.apply.new.done.items c.in-Err-TooDeep.ensures.refused c.in-Err-TooDeep.ensures.kept, out.1)
+    (not_taken g.S.Stamp.MAX g.K.Keeper.holds _ past p none c.apply.new.self c.apply.new.done.items c.in-Err-TooDeep.ensures.refused, out.1)
 
 pub returns-in-Err-Memory-clause-too_deep : goal.returns-in-Err-Memory-clause-too_deep
 returns-in-Err-Memory-clause-too_deep g c = λ past kept out.

@@ -8,7 +8,7 @@ use Rattle.shadow_stack.proofs.frames.Frames.find.Goals as goal
 pub returns-clause-found : goal.returns-clause-found
 returns-clause-found g c =
     let items = c.self.inside.frames.items in
-    let starts_are = ap (map (λ x. g.S.Stamp.number_of x.start)) c.deref.ensures.value ∙ starts_seen (λ x. g.S.Stamp.number_of x.start) (λ x. x.sums) items ∙ ap (λ (s : Stack). starts_of s.list) c.self.view_is in
+    let starts_are = ap (map (λ x. g.S.Stamp.number_of x.start)) c.as_slice.ensures ∙ starts_seen (λ x. g.S.Stamp.number_of x.start) (λ x. x.sums) items ∙ ap (λ (s : Stack). starts_of s.list) c.self.view_is in
     let found = c.first_above.ensures in
     rw (← starts_are, ← c.number.ensures.value)
     (counted_last _ _ _ _ c.checked_sub.ensures (rw length-map found.within) found.below (λ i low lt. found.above i low (rw length-map at lt)))

@@ -9,5 +9,5 @@ pub invariant_of-self-2 : goal.invariant_of-self-2
 invariant_of-self-2 g c =
     let items = c.self.inside.frames.items in
     let starts_are = starts_seen (λ x. g.S.Stamp.number_of x.start) (λ x. x.sums) items ∙ ap (λ (s : Stack). starts_of s.list) c.self.view_is in
-    rw (c.in_ok-push.ensures.items, map-append)
+    rw (c.in_ok-push.ensures.ok, map-append)
     (rising_push _ _ c.self.invariant (rw starts_are (λ i lt. c.requires i 0 lt)))
