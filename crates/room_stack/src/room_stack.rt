@@ -98,7 +98,8 @@ impl<T: Copy> RoomStack<T> {
         ensures lowered { self.old.spare ≤ self.new.spare + 1 }
     {
         if self.depth == self.items.len() {
-            push_behind(&mut self.items, item)?;
+            let first = item; // so that the item itself need not be in memory
+            push_behind(&mut self.items, first)?;
         }
         self.items[self.depth] = item;
         self.depth += 1;
