@@ -223,6 +223,20 @@ impl<S: Lanes, K: Keeper> Profile<S, K> {
         true
     }
 
+    // Takes steps of a thread, and then an event.
+    #[inline(always)]
+    fn observe_each(&mut self, tid: Tid, count: u64, e: Event) -> Result<Observed, AllocError>
+        requires may { MayTakeAfter (IsProfileOf S.MAX K.holds) (is_within S.MAX) self.old tid count e }
+        requires some { 1 ≤ count }
+        ensures observed { IfOk result (ObservesAfter (IsProfileOf S.MAX K.holds) (is_within S.MAX) tid count e self.old self.new) }
+    {
+        self.observe_steps(tid, count)?;
+        match e {
+            Event::Ret { tid, target } => self.observe_return(tid, target),
+            _ => self.observe(e),
+        }
+    }
+
     /// What was kept of the run, and what was counted.
     pub fn into_kept(self) -> Result<(K, Counts), AllocError>
         requires { IsOfFormed S.MAX K.holds self }
@@ -293,16 +307,13 @@ impl<S: Lanes, K: Keeper> Observer for Profile<S, K> {
 
     #[inline(always)]
     fn observe_after(&mut self, tid: Tid, count: u64, e: Event) -> Result<Observed, AllocError> {
-        if let Some(w) = word_read(&e, tid) {
-            if self.observe_read(tid, count, w) {
-                return Ok(Observed::Taken);
-            }
+        let Some(w) = word_read(&e, tid) else {
+            return self.observe_each(tid, count, e);
+        };
+        if self.observe_read(tid, count, w) {
+            return Ok(Observed::Taken);
         }
-        self.observe_steps(tid, count)?;
-        match e {
-            Event::Ret { tid, target } => self.observe_return(tid, target),
-            _ => self.observe(e),
-        }
+        self.observe_each(tid, count, e)
     }
 
     #[inline(always)]
