@@ -208,7 +208,7 @@ impl GuestMemory {
     }
 
     /// Decodes the instruction at an address, which is known from then on, where there is one whose word can be fetched. It
-    /// allocates 12 KiB for the first of a page.
+    /// allocates 8 KiB for the first of a page.
     #[cold]
     #[inline(never)]
     pub fn learn_instruction(&mut self, at: Addr) -> Result<(), AllocError>
