@@ -10,7 +10,7 @@ from pathlib import Path
 TOP = Path(__file__).resolve().parent.parent
 PAGE = TOP / "docs" / "ARCHITECTURE.md"
 BEGIN, END = "```mermaid\n", "```\n"
-TESTS = {"guest_tests", "trace_tests", "profile_tests", "program_tests", "profile_trials", "worked_rows", "written_images"}
+TESTS = {"unit_tests", "program_tests", "profile_trials", "worked_rows", "written_images"}
 
 Graph = dict[str, set[str]]
 

@@ -4,7 +4,7 @@ use Rattle.command_line.specs.Options.Analysis.{Contexts}
 use Rattle.elf_image.specs.Reading.{image_of}
 use Rattle.guest_run.specs.ObservedRun.{ObservedRun}
 use Rattle.guest_run.specs.Run.{recording}
-use Rattle.context_report.specs.ContextText.{contexts_text}
+use Rattle.profile_report.specs.ContextText.{contexts_text}
 use Rattle.context_tree.specs.Contexts as tree
 use Rattle.context_tree.specs.Order.{in_order}
 use Rattle.profile_report.specs.ReportText.{report_text}

@@ -12,8 +12,8 @@ use Rattle.cost_points.proofs.Rising.{IsRising-above, IsRising-rising, IsRising-
 use Rattle.elf_image.specs.Image.{Executable, name_of}
 use Rattle.guest_run.specs.ObservedRun.{ObservedRun}
 use Rattle.guest_words.specs.declared.endings.Finish.{Finish}
-use Rattle.run_trace.specs.Entries.{entries_begun, entry_begun}
-use Rattle.run_trace.specs.Kept.{IsTooLong}
+use Rattle.stored_traces.specs.Entries.{entries_begun, entry_begun}
+use Rattle.stored_traces.specs.Kept.{IsTooLong}
 use Rattle.trace_file.specs.Records.{record_bytes}
 use Rattle.trace_file.specs.declared.records.Record.{Record}
 use Rattle.trace_file.specs.TraceText.{IsRising, Names, event_records, finish_records, magic, name_records, text_of, trace_text}

@@ -26,7 +26,7 @@ use Rattle.trace_model.specs.declared.event_kinds.Event.{Event}
 use Rattle.trace_model.specs.Cut.{cut}
 use Rattle.trace_model.specs.Depth.{is_within, pending}
 use Rattle.trace_model.specs.WellFormed.{IsWellFormed}
-use Rattle.run_trace.specs.Entries.{entries_begun}
+use Rattle.stored_traces.specs.Entries.{entries_begun}
 use Rattle.aprof_top.specs.Laws.{TracesReplay, replayed_from}
 use Rattle.aprof_top.specs.Limits.{trace_limit}
 use Rattle.aprof_top.specs.Loads.{Loaded, guest_loads, load, loaded_of}

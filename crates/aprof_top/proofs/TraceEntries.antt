@@ -10,7 +10,7 @@ use Rattle.cost_points.specs.Points.{points, routine_of}
 use Rattle.cost_points.proofs.Rising.{insert_above, insert_below, insert_same, order}
 use Rattle.elf_image.specs.Image.{Executable, name_beside, name_of}
 use Rattle.profile_report.specs.Reported.{ReportedRoutine}
-use Rattle.run_trace.specs.Entries.{entries_begun, entry_begun}
+use Rattle.stored_traces.specs.Entries.{entries_begun, entry_begun}
 use Rattle.trace_model.specs.declared.activations.Activation.{Activation}
 use Rattle.trace_model.specs.declared.event_kinds.Event.{Event}
 use Rattle.trace_model.specs.declared.event_kinds.Event.TheVariants.{Call, Start}

@@ -23,7 +23,7 @@ use Rattle.elf_image.proofs.Sound.{sound_from}
 use Rattle.guest_machine.specs.Laws.{IsAddress}
 use Rattle.guest_run.specs.ObservedRun.{ObservedRun}
 use Rattle.guest_run.specs.Traces.{IsEndInRange, IsEventInRange, TellsInRange}
-use Rattle.run_trace.specs.Entries.{entries_begun}
+use Rattle.stored_traces.specs.Entries.{entries_begun}
 use Rattle.trace_file.specs.Records.{Fits}
 use Rattle.trace_file.specs.TraceText.{event_records, name_records, whole_records}
 use Rattle.trace_file.specs.declared.records.Record.TheVariants.{OfEvent, OfName, OfFinish}

@@ -1,6 +1,6 @@
 -- The report of a run with its calling contexts.
 use Rattle.std.specs.Prelude.{ℕ, Bool, nat_le, List, ◌++◌, length}
-use Rattle.context_report.specs.ContextText.{contexts_text}
+use Rattle.profile_report.specs.ContextText.{contexts_text}
 use Rattle.context_tree.specs.Contexts.{contexts}
 use Rattle.context_tree.specs.Order.{in_order}
 use Rattle.guest_words.specs.declared.limits.TheConstants.{CONTEXTS}

@@ -4,7 +4,7 @@ use Rattle.std.specs.List.{flat_map}
 use Rattle.std.specs.Option.{option_map, option_to_list}
 use Rattle.elf_image.specs.Image.{Executable, name_of}
 use Rattle.guest_run.specs.ObservedRun.{ObservedRun}
-use Rattle.run_trace.specs.Entries.{entries_begun}
+use Rattle.stored_traces.specs.Entries.{entries_begun}
 use Rattle.guest_words.specs.declared.limits.TheConstants.{TRACE_BYTES}
 use Rattle.trace_file.specs.TraceText.{Names, trace_text}
 use Rattle.trace_model.specs.declared.event_kinds.Event.{Event}

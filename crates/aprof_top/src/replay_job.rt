@@ -4,7 +4,7 @@ ghost use Rattle.command_line.specs.Read.{replay_in};
 ghost use Rattle.guest_words.specs.declared.endings.Finish.TheVariants.{Deep};
 ghost use Rattle.host_io.specs.Sink.{SinkState};
 ghost use Rattle.stamps.specs.Widths.{greatest};
-ghost use Rattle.trace_replay.specs.Replays.{IsReplayOf, Replays};
+ghost use Rattle.stored_traces.specs.Replays.{IsReplayOf, Replays};
 ghost use Rattle.aprof_top.specs.Private.Jobs.{HandsOut, RunIsStored, desk, ending_by, store_of};
 ghost use Rattle.aprof_top.specs.Outcome.{IsReplay, replay_outcome, replay_text};
 ghost use Rattle.aprof_top.specs.Outside.{outside};
@@ -19,8 +19,8 @@ use host_io::{Files, Sink};
 use profile_report::write_report;
 use stamps::StampBits;
 use std::alloc::{AllocError, Global};
+use stored_traces::{Replayed, replay};
 use trace_file::TraceError;
-use trace_replay::{Replayed, replay};
 
 // Profiles a trace by stamps of the width.
 fn replay_by_width(alloc: Global, bits: StampBits, bytes: &[u8]) -> Result<Replayed, TraceError>

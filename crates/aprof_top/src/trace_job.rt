@@ -26,9 +26,9 @@ use elf_image::Image;
 use guest_words::limits::TRACE_BYTES;
 use guest_words::{Addr, Finish, Name};
 use host_io::{Files, Sink};
-use run_trace::{EventText, RunTrace};
 use std::alloc::{AllocError, Global};
 use std::collections::BTreeSet;
+use stored_traces::{EventText, RunTrace};
 
 /// The text of a run's events, unless that is too long, and how the run ended.
 #[derive(Drop)]

@@ -23,7 +23,7 @@ pub(crate) fn word_at(file: &[u8], at: usize) -> u32
 }
 
 /// The file header (Elf32_Ehdr), but for its first 16 bytes.
-#[derive(Clone, Copy, Debug)]
+#[derive(Clone, Copy)]
 pub(crate) struct FileHeader {
     pub(crate) e_type: u16,
     pub(crate) e_machine: u16,
@@ -63,7 +63,7 @@ impl FileHeader {
 }
 
 /// A program header (Elf32_Phdr), but for p_paddr and p_align.
-#[derive(Clone, Copy, Debug)]
+#[derive(Clone, Copy)]
 pub(crate) struct ProgramHeader {
     pub(crate) p_type: u32,
     pub(crate) p_offset: u32,
@@ -91,7 +91,7 @@ impl ProgramHeader {
 }
 
 /// A section header (Elf32_Shdr), as far as names need it.
-#[derive(Clone, Copy, Debug)]
+#[derive(Clone, Copy)]
 pub(crate) struct SectionHeader {
     pub(crate) sh_type: u32,
     pub(crate) sh_offset: u32,

@@ -32,7 +32,7 @@ pub(crate) const SYMBOL_SIZE: usize = 16;
 
 /// A symbol that counts: its value, the rank of its binding (the lowest goes first), and where its name stands among the
 /// strings of its table.
-#[derive(Clone, Copy, Debug)]
+#[derive(Clone, Copy)]
 pub(crate) struct SymbolPlace {
     pub(crate) value: Addr,
     pub(crate) rank: u8,

@@ -3,5 +3,5 @@ pub mod Faults
 pub mod Files
 pub mod Memory
 pub mod Real
+pub mod Refused
 pub mod Sink
-pub mod Private

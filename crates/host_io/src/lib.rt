@@ -17,9 +17,6 @@ pub use drop_sink::DropSink;
 pub use files::{Files, LoadError, StoreError};
 pub use memory_files::MemoryFiles;
 pub use memory_sink::MemorySink;
-pub use real_files::RealFiles;
+pub use real_files::{RealFiles, load_opened};
 pub use sink::{PutError, Sink};
 pub use stream_sink::StreamSink;
-
-#[cfg(test)]
-mod tests;

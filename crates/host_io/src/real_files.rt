@@ -5,7 +5,7 @@ ghost use Rattle.std.specs.Io.KnownBytes.{Appends};
 ghost use Rattle.std.specs.Io.Take.{take_inner, take_limit};
 ghost use Rattle.host_io.specs.Files.{LoadEnds, StoreEnds, NoCountFalls};
 ghost use Rattle.host_io.specs.After.{after_load, after_store};
-ghost use Rattle.host_io.specs.Private.Refused.{IsRefusedFor};
+ghost use Rattle.host_io.specs.Refused.{IsRefusedFor};
 
 use crate::{Files, LoadError, StoreError};
 use std::alloc::Global;
@@ -60,8 +60,8 @@ fn opening_error(error: io::Error) -> StoreError
     }
 }
 
-/// The reader up to one byte behind the limit, by which a longer file shows.
-pub(crate) fn limited<R: Read>(reader: R, most: usize) -> Take<R>
+// The reader up to one byte behind the limit, by which a longer file shows.
+fn limited<R: Read>(reader: R, most: usize) -> Take<R>
     ensures limit { take_limit result ≡ min (most + 1) (2 ^ 64 - 1) }
     ensures inner { take_inner result ≡ reader }
 {
@@ -83,9 +83,9 @@ fn loaded(read: io::Result<usize>, bytes: Vec<u8>, most: usize) -> Result<Vec<u8
     }
 }
 
-/// All bytes that the reader gives to its end, where they are at most `most`. It stops by itself one byte behind them. An
-/// interrupted read is tried again, as std does.
-pub(crate) fn read_whole<R: Read>(
+// All bytes that the reader gives to its end, where they are at most `most`. It stops by itself one byte behind them. An
+// interrupted read is tried again, as std does.
+fn read_whole<R: Read>(
     alloc: Global,
     mut reader: Take<R>,
     most: usize,
@@ -104,8 +104,8 @@ where
     loaded(read, bytes, most)
 }
 
-/// All bytes of what was opened, where they are at most `most`.
-pub(crate) fn load_opened<R: Read>(
+/// All bytes of what was opened, where they are at most `most`: the part of a load that is behind the opening of a file.
+pub fn load_opened<R: Read>(
     alloc: Global,
     opened: io::Result<R>,
     most: usize,
@@ -125,9 +125,9 @@ where
     }
 }
 
-/// Writes all bytes to what was opened, and gives it back. Behind its opening a part may be written, so that each error is a
-/// failure.
-pub(crate) fn store_opened<W: Write>(opened: io::Result<W>, bytes: &[u8]) -> Result<W, StoreError>
+// Writes all bytes to what was opened, and gives it back. Behind its opening a part may be written, so that each error is a
+// failure.
+fn store_opened<W: Write>(opened: io::Result<W>, bytes: &[u8]) -> Result<W, StoreError>
 where
     W: Drop,
     ensures unopened { IfErr opened (λ e. IsRefusedFor e StoreError.Memory StoreError.Failed result) }

@@ -9,3 +9,5 @@ pub mod Digits
 pub mod PointWords
 pub mod OneText
 pub mod OneReading
+pub mod ToldContexts
+pub mod WorkedContexts

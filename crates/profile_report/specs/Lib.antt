@@ -5,4 +5,5 @@ pub mod Fits
 pub mod Grammar
 pub mod Reading
 pub mod Valid
+pub mod ContextText
 pub mod Private

@@ -23,7 +23,7 @@ pub enum Line {
 }
 
 /// Why bytes are not read as a line.
-#[derive(Clone, Copy, Debug, PartialEq, Eq)]
+#[derive(Clone, Copy)]
 pub enum LineError {
     /// They have none of the forms.
     NoForm,

@@ -7,7 +7,7 @@ ghost use Rattle.rv_asm.specs.Fields.{bytes_of, field_bytes};
 use std::alloc::AllocError;
 
 /// A field of one, two or four bytes.
-#[derive(Clone, Copy, Debug)]
+#[derive(Clone, Copy)]
 pub(crate) enum Field {
     Byte(u8),
     Half(u16),

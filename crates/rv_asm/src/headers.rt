@@ -7,7 +7,7 @@ use crate::fields::push_fields;
 use std::alloc::AllocError;
 
 /// The file header (Elf32_Ehdr) behind its first 16 bytes.
-#[derive(Clone, Copy, Debug)]
+#[derive(Clone, Copy)]
 pub(crate) struct FileHeader {
     pub(crate) e_type: u16,
     pub(crate) e_machine: u16,
@@ -49,7 +49,7 @@ impl FileHeader {
 }
 
 /// A program header (Elf32_Phdr).
-#[derive(Clone, Copy, Debug)]
+#[derive(Clone, Copy)]
 pub(crate) struct ProgramHeader {
     pub(crate) p_type: u32,
     pub(crate) p_offset: u32,
@@ -82,7 +82,7 @@ impl ProgramHeader {
 }
 
 /// A section header (Elf32_Shdr).
-#[derive(Clone, Copy, Debug)]
+#[derive(Clone, Copy)]
 pub(crate) struct SectionHeader {
     pub(crate) sh_name: u32,
     pub(crate) sh_type: u32,
@@ -119,7 +119,7 @@ impl SectionHeader {
 }
 
 /// An entry of a symbol table (Elf32_Sym).
-#[derive(Clone, Copy, Debug)]
+#[derive(Clone, Copy)]
 pub(crate) struct SymbolEntry {
     pub(crate) st_name: u32,
     pub(crate) st_value: u32,

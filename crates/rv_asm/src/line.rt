@@ -5,7 +5,7 @@ ghost use Rattle.rv_asm.specs.Lines.{is_jump, with_offset};
 use rv_isa::Instr;
 
 /// A line of a program: an instruction, and the label that it jumps to, if its offset is that label's.
-#[derive(Clone, Copy, PartialEq, Eq, Debug)]
+#[derive(Clone, Copy)]
 pub(crate) struct Line {
     pub(crate) instruction: Instr,
     pub(crate) to: Option<u32>,

@@ -21,7 +21,7 @@ use std::alloc::Global;
 use trace_model::Event;
 
 /// Why no record is read.
-#[derive(Clone, Copy, Debug, PartialEq, Eq)]
+#[derive(Clone, Copy)]
 pub enum Stop {
     /// The bytes are the beginning of a record, and no whole one.
     Begun,

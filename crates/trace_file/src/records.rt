@@ -22,7 +22,7 @@ pub enum Record {
 }
 
 /// The forms of records, each named for what it says.
-#[derive(Clone, Copy, Debug, PartialEq, Eq)]
+#[derive(Clone, Copy)]
 pub enum Form {
     Step,
     Read,
@@ -42,7 +42,7 @@ pub enum Form {
 }
 
 /// The least and the greatest that a number of a record can be. The least is 0 or 1.
-#[derive(Clone, Copy, Debug)]
+#[derive(Clone, Copy)]
 pub struct Range {
     pub least: u32,
     pub most: u32,

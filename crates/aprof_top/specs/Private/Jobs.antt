@@ -31,9 +31,9 @@ use Rattle.cache_lines.specs.Shapes.{Dimensions}
 use Rattle.cache_profile.specs.ReportText.{Reported}
 use Rattle.elf_image.specs.Image.{Executable}
 use Rattle.aprof_top.specs.CacheMisses.{misses_of}
-use Rattle.run_trace.specs.Entries.{entries_begun}
-use Rattle.run_trace.specs.declared.written.EventText.{EventText}
-use Rattle.run_trace.specs.Kept.{IsTooLong}
+use Rattle.stored_traces.specs.Entries.{entries_begun}
+use Rattle.stored_traces.specs.declared.written.EventText.{EventText}
+use Rattle.stored_traces.specs.Kept.{IsTooLong}
 use Rattle.trace_file.specs.TraceText.{IsTextOf}
 use Rattle.aprof_top.specs.Delivery.{DoesAll, FailsAtStats, FailsAtStore, FailsOnErr, FailsOnOut, FailsWithin, StoreFails, StopsShort}
 use Rattle.aprof_top.specs.Loads.{Loaded}

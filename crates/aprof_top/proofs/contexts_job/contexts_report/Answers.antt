@@ -1,5 +1,5 @@
 use Rattle.std.proofs.Common.{◌∙◌, ◌++◌, List, ℕ, ap}
-use Rattle.context_report.specs.ContextText.{contexts_text}
+use Rattle.profile_report.specs.ContextText.{contexts_text}
 use Rattle.context_tree.specs.Contexts.{contexts}
 use Rattle.context_tree.specs.Order.{in_order}
 use Rattle.context_tree.proofs.InOrder.{have_order}

@@ -1,5 +1,0 @@
-use Rattle.std.proofs.Common.{◌≡◌}
-use Rattle.profile_tests.proofs.lines.the_least_recently_used_line_is_dropped.Given as goal
-
-abbrev pub invariant-loop-line : goal.invariant-loop-line
-invariant-loop-line g l = l.cache.shape.line ≡ 64

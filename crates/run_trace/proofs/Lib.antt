@@ -1,2 +1,0 @@
-pub mod EntrySets
-pub mod Depth

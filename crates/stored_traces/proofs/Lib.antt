@@ -1,0 +1,3 @@
+mod Cuts
+pub mod EntrySets
+pub mod Depth
