@@ -228,7 +228,7 @@ impl<S: Lanes, K: Keeper> Profile<S, K> {
     fn observe_each(&mut self, tid: Tid, count: u64, e: Event) -> Result<Observed, AllocError>
         requires may { MayTakeAfter (IsProfileOf S.MAX K.holds) (is_within S.MAX) self.old tid count e }
         requires some { 1 ≤ count }
-        ensures observed { IfOk result (ObservesAfter (IsProfileOf S.MAX K.holds) (is_within S.MAX) tid count e self.old self.new) }
+        ensures { IfOk result (ObservesAfter (IsProfileOf S.MAX K.holds) (is_within S.MAX) tid count e self.old self.new) }
     {
         self.observe_steps(tid, count)?;
         match e {

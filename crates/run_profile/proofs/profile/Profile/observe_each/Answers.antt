@@ -8,8 +8,8 @@ use Rattle.trace_model.proofs.Feeding.{observes_after}
 use Rattle.run_profile.specs.Profile.{IsProfileOf}
 use Rattle.run_profile.proofs.profile.Profile.observe_each.Goals as goal
 
-pub returns-in-Ret-clause-observed : goal.returns-in-Ret-clause-observed
-returns-in-Ret-clause-observed g c =
+pub returns-in-Ret : goal.returns-in-Ret
+returns-in-Ret g c =
     let old = c.args.self.now in
     let mid = c.observe_steps.new.self in
     let new = c.observe_return.new.self in
@@ -20,8 +20,8 @@ returns-in-Ret-clause-observed g c =
     observes_after Stands (is_within g.S.Stamp.MAX) c.args.tid c.args.count (Ret c.in-Ret.tid c.in-Ret.target) old mid c.in_ok-observe_steps.ensures.stepped new observed h)
     c.observe_return.ensures.observed)
 
-pub returns-in_default-clause-observed : goal.returns-in_default-clause-observed
-returns-in_default-clause-observed g c =
+pub returns-in_default : goal.returns-in_default
+returns-in_default g c =
     let old = c.args.self.now in
     let mid = c.observe_steps.new.self in
     let new = c.observe.new.self in

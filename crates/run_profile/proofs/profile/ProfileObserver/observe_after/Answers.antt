@@ -31,4 +31,4 @@ pub returns-clause-observed : goal.returns-clause-observed
 returns-clause-observed g c =
     let Stands = IsProfileOf g.S.Stamp.MAX g.K.Keeper.holds in
     subst (λ (k : KeptRun g.row.K.Denot). IfOk c.observe_each-2.result (ObservesAfter Stands (is_within g.S.Stamp.MAX) c.args.tid c.args.count c.args.e k c.observe_each-2.new.self))
-    (c.observe_read.ensures.same c.if-observe_read.false) c.observe_each-2.ensures.observed
+    (c.observe_read.ensures.same c.if-observe_read.false) c.observe_each-2.ensures
