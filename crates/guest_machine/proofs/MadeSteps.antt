@@ -1,5 +1,5 @@
 -- An instruction that was carried out and told to the observer at once.
-use Rattle.std.proofs.Common.{◌≡◌, ℕ, ℤ, ◌+◌, ◌<◌, ◌≤◌, ◌%◌, ◌^◌, Bool, List, [], ◌∷◌, ◌++◌, Result, Ok, Err, IfOk, IfErr, ap, refl, sym, subst, ◌∙◌, append-nil, arith}
+use Rattle.std.proofs.Common.{◌≡◌, ℕ, ℤ, ◌+◌, ◌<◌, ◌≤◌, ◌%◌, ◌^◌, Bool, List, [], ◌∷◌, ◌++◌, Result, Ok, Err, IfOk, ap, refl, sym, subst, ◌∙◌, append-nil, arith}
 use Rattle.std.specs.declared.alloc.AllocError.{AllocError}
 use Rattle.guest_memory.specs.Code.{IsInstructionAt}
 use Rattle.guest_memory.specs.Guest.{memory_of}
@@ -15,7 +15,6 @@ use Rattle.rv_exec.specs.Operations.{add_offset}
 use Rattle.rv_exec.specs.Registers.{Registers, with_pc}
 use Rattle.rv_exec.specs.declared.outcome.Access.{Access}
 use Rattle.rv_exec.specs.declared.outcome.Access.TheVariants as access
-use Rattle.rv_exec.specs.declared.outcome.Outcome.{Outcome}
 use Rattle.rv_exec.specs.declared.outcome.Outcome.TheVariants.{Fault, Went}
 use Rattle.call_tracker.specs.Links.{kind_of}
 use Rattle.call_tracker.specs.declared.jumps.JumpKind.{JumpKind}
@@ -34,7 +33,7 @@ use Rattle.guest_machine.specs.declared.making.Made.{Made}
 use Rattle.guest_machine.specs.declared.making.Made.TheVariants as made
 use Rattle.guest_machine.specs.Private.Carrying.{IsStepOf}
 use Rattle.guest_machine.specs.Private.Making.{Makes, MakesLoad, MakesStore, MayLoad, MayMake, MayStore, behind, made_answer, made_of, made_row, stored}
-use Rattle.guest_machine.specs.Private.Rows.{HasRun, MayRun, Runs, RunsOn, further_of, handed}
+use Rattle.guest_machine.specs.Private.Rows.{HasRun, Runs, RunsOn, further_of, handed}
 use Rattle.guest_machine.specs.Step.{access_events, jump_events}
 use Rattle.guest_machine.specs.Told.{done_by, steps_of}
 use Rattle.guest_machine.proofs.Carried.{known_is, state_kept, steps_to}

@@ -1,12 +1,12 @@
 -- One event of a trace, as a profiler takes it.
 use Rattle.std.proofs.Common.{[], cond, ◌≡◌, ℕ, ◌+◌, ◌*◌, ◌<◌, ◌≤◌, Bool, true, false, List, ◌∷◌, ◌++◌, length, map, take, Some, None, refl, sym, ap, subst, ◌∙◌, arith}
-use Rattle.std.specs.Prelude.{◌==◌, ◌/◌, ◌%◌, ◌&&◌, ◌||◌, not, nat_eq, nat_le, nat_lt, Option, is_some}
+use Rattle.std.specs.Prelude.{◌==◌, ◌/◌, ◌%◌, ◌&&◌, not, nat_lt, Option, is_some}
 use Rattle.std.specs.Option.{option_map_or}
 use Rattle.std.proofs.lemmas.List.{length-map, length-take-le}
 use Rattle.std.proofs.lemmas.Bool.Decides.{nat_tests}
 use Rattle.guest_words.specs.ByThread.{value_of}
 use Rattle.trace_model.specs.declared.event_kinds.Event.{Event}
-use Rattle.trace_model.specs.declared.event_kinds.Event.TheVariants.{Read, Write, Call, Ret, Start}
+use Rattle.trace_model.specs.declared.event_kinds.Event.TheVariants.{Read, Write, Ret, Start}
 use Rattle.trace_model.specs.declared.slow_profile.Done.{Done}
 use Rattle.std.specs.List.{position_or_len}
 use Rattle.trace_model.specs.declared.activations.Activation.{Activation}
@@ -32,7 +32,7 @@ use Rattle.call_tracker.specs.ThreadCalls.{Calls, CountedCall, no_counts}
 use Rattle.stamp_table.specs.Table.{Table, Thread, empty_table}
 use Rattle.stamp_table.specs.Ticks.{table_after, table_at}
 use Rattle.shadow_core.proofs.Profiled.{may_advance, there_too}
-use Rattle.stamp_table.proofs.Room.{fits_by_frames, allows_what_may_follow}
+use Rattle.stamp_table.proofs.Room.{allows_what_may_follow}
 use Rattle.stamp_table.proofs.Runs.{empty_stands, finishes_what_ends, stands_on}
 use Rattle.shadow_core.proofs.StateThreads.{own_test}
 use Rattle.shadow_core.proofs.StateTold.{frames_are_told}

@@ -136,7 +136,7 @@ module _ (most : ℕ) (e : Event) (t : ℕ) (s now : State) (was : Stamped) (is 
   clock_is =
       let under : nat_lt s.counter most ≡ true = grind (arith, nat_tests, low) in
       ap (λ (b : Bool). let answer = cond {A = Ticked} b (record { counter = s.counter + 1; renewed = false }) (record { counter = 3 * length (all_starts s.live.threads) + 3; renewed = true }) in
-          record { counter = answer.counter; writes = s.writes; live = s.live; renumbered = s.renumbered + cond answer.renewed 1 0 }) under
+      record { counter = answer.counter; writes = s.writes; live = s.live; renumbered = s.renumbered + cond answer.renewed 1 0 }) under
       ∙ ap (λ n. record clock_on { renumbered = n }) (omega arith)
 
   pub goes_on : IsAdvanced most true (clock_with s s.live) clock_on

@@ -1,5 +1,5 @@
 -- What reads of words make of frames and stamps, as the code makes them.
-use Rattle.std.proofs.Common.{inl, inr, ◌≢◌, ◌≡◌, ℕ, zero, suc, ◌+◌, ◌<◌, ◌≤◌, ◌^◌, Bool, true, false, cond, leb, List, [], ◌∷◌, ◌++◌, length, reverse, Option, Some, None, refl, sym, ap, subst, ◌∙◌, arith, pos}
+use Rattle.std.proofs.Common.{inl, inr, ◌≡◌, ℕ, zero, suc, ◌+◌, ◌<◌, ◌≤◌, ◌^◌, Bool, true, false, cond, leb, List, [], ◌∷◌, ◌++◌, length, reverse, Option, Some, None, refl, sym, ap, subst, ◌∙◌, arith, pos}
 use Rattle.std.specs.Prelude.{All, IfSome, is_some, slice_get, slice_index}
 use Rattle.std.specs.Prelude.{◌==◌}
 use Rattle.std.specs.List.{range_with_len}
@@ -15,7 +15,7 @@ use Rattle.guest_words.specs.ByThread.{value_of, with_value}
 use Rattle.shadow_stack.specs.declared.sums.Sums.{Sums}
 use Rattle.stamp_lanes.specs.Plain.{Place, is_foreign}
 use Rattle.shadow_stack.specs.Frames.{Frame, FitsSums, IsMoved, added, plus, starts_of}
-use Rattle.shadow_pages.specs.Pages.{Page, covers, in_range, stamp_at}
+use Rattle.shadow_pages.specs.Pages.{Page, in_range, stamp_at}
 use Rattle.stamp_renumber.specs.Threads.{Live, Stamped, calls_of, frames_of, own_of, pages_of, spare_of, stamped}
 use Rattle.stamp_renumber.specs.WordRead.{IsWordRead}
 use Rattle.call_tracker.specs.ThreadCalls.{no_counts}

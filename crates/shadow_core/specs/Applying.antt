@@ -1,18 +1,17 @@
 -- One event of a trace, as a profiler takes it.
-use Rattle.std.specs.Prelude.{◌≡◌, ℕ, ◌+◌, ◌*◌, ◌<◌, ◌≤◌, Bool, true, not, ◌&&◌, nat_lt, List, ◌∷◌, ◌++◌, length}
+use Rattle.std.specs.Prelude.{◌≡◌, ℕ, ◌+◌, ◌<◌, ◌≤◌, true, List, ◌∷◌, ◌++◌, length}
 use Rattle.std.specs.Option.{option_map_or}
 use Rattle.guest_words.specs.ByThread.{value_of}
 use Rattle.trace_model.specs.declared.event_kinds.Event.{Event}
 use Rattle.trace_model.specs.declared.event_kinds.Event.TheVariants.{Step, Read, Write, Fill, Ret}
 use Rattle.trace_model.specs.declared.slow_profile.Done.{Done}
-use Rattle.trace_model.specs.Depth.{count_begun, is_within, pending}
+use Rattle.trace_model.specs.Depth.{is_within}
 use Rattle.trace_model.specs.Events.{covers}
 use Rattle.trace_model.specs.Profile.{ended}
 use Rattle.shadow_pages.specs.Pages as pages
 use Rattle.stamp_renumber.specs.Threads.{pages_of}
 use Rattle.stamp_table.specs.Table.{Table}
 use Rattle.stamp_table.specs.Records.{finished}
-use Rattle.stamp_table.specs.Stands.{Stands}
 use Rattle.shadow_core.specs.State.{State}
 use Rattle.shadow_core.specs.Profiling.{StandsFor}
 

@@ -1,5 +1,5 @@
 -- The threads where one of them changes.
-use Rattle.std.proofs.Common.{◌≡◌, ℕ, zero, suc, ◌+◌, ◌-◌, ◌<◌, ◌≤◌, Bool, true, false, cond, List, [], ◌∷◌, ◌++◌, length, Option, Some, None, refl, sym, ap, ap₂, ◌∙◌, subst, arith, All, not}
+use Rattle.std.proofs.Common.{◌≡◌, ℕ, suc, ◌+◌, ◌-◌, ◌<◌, ◌≤◌, Bool, true, false, cond, List, [], ◌∷◌, ◌++◌, length, Option, Some, None, refl, sym, ap, ap₂, ◌∙◌, subst, arith, All, not}
 use Rattle.std.specs.Prelude.{◌==◌, is_some, OnErr, OnOk, Result, Ok, Err}
 use Rattle.std.specs.Option.{option_map_or}
 use Rattle.std.proofs.lemmas.Bool.{eq-eqb}
@@ -8,7 +8,7 @@ use Rattle.std.proofs.lemmas.List.{length-append, length-map}
 use Rattle.guest_words.specs.ByThread.{IsRising, numbers, value_of, with_value, without_thread}
 use Rattle.guest_words.proofs.ThreadTables.{numbers-with, rising_pushed, rising_without, value_of-pushed, value_of-with, with_own}
 use Rattle.shadow_stack.specs.declared.sums.Sums.{Sums}
-use Rattle.shadow_stack.specs.Frames.{Frame, IsPopped, added, added_to_last, starts_of}
+use Rattle.shadow_stack.specs.Frames.{Frame, IsPopped, added_to_last, starts_of}
 use Rattle.stamp_renumber.specs.Kept.{IsKept}
 use Rattle.call_tracker.specs.ThreadCalls.{Calls, no_counts}
 use Rattle.stamp_renumber.specs.Threads.{Stamped, all_starts, calls_of, frames_of, own_of, pages_of, spare_of, stamped}

@@ -1,6 +1,6 @@
-use Rattle.std.proofs.Common.{◌≡◌, ◌∙◌, ap₂, subst, sym, w32}
+use Rattle.std.proofs.Common.{◌∙◌, ap₂, subst, sym, w32}
 use Rattle.std.proofs.lemmas.Int.{to_z-of_z}
-use Rattle.rv_exec.specs.Effects.{exec_state_of, value}
+use Rattle.rv_exec.specs.Effects.{exec_state_of}
 use Rattle.rv_exec.specs.Operations.{add_offset}
 use Rattle.rv_exec.specs.Registers.{Registers}
 use Rattle.guest_machine.specs.Private.Making.{Makes}

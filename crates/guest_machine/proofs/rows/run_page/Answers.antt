@@ -1,4 +1,4 @@
-use Rattle.std.proofs.Common.{◌≡◌, Option, IfSome, ◌+◌, ◌++◌, Ok, Err, IfOk, refl, sym, ap, subst, ◌∙◌, arith}
+use Rattle.std.proofs.Common.{◌≡◌, Option, IfSome, ◌+◌, ◌++◌, Ok, Err, IfOk, sym, ap, subst, ◌∙◌, arith}
 use Rattle.rv_isa.specs.declared.instruction.Instr.{Instr}
 use Rattle.guest_memory.specs.Code.{IsInstructionAt}
 use Rattle.guest_memory.specs.Guest.{memory_of}

@@ -1,4 +1,4 @@
-use Rattle.std.proofs.Common.{◌≡◌, ◌+◌, ◌-◌, ◌/◌, ◌%◌, ◌^◌, ◌<◌, ℕ, Option, None, IfSome, ap, arith, get_or, length, map, subst, sym, ◌∙◌}
+use Rattle.std.proofs.Common.{◌≡◌, ◌+◌, ◌-◌, ◌/◌, ◌%◌, ◌^◌, ◌<◌, Option, None, IfSome, ap, arith, get_or, length, map, subst, sym, ◌∙◌}
 use Rattle.std.proofs.lemmas.List.{get_or-map}
 use Rattle.rv_isa.specs.declared.instruction.Instr.{Instr}
 use Rattle.guest_memory.specs.Code.{IsInstructionAt, known_of}

@@ -1,4 +1,4 @@
-use Rattle.std.proofs.Common.{◌≡◌, ◌<◌, ◌∙◌, ◌/◌, ◌%◌, Some, ap, arith, get_or, length, set, subst, sym}
+use Rattle.std.proofs.Common.{◌≡◌, ◌<◌, ◌∙◌, ◌/◌, ◌%◌, ap, arith, get_or, length, set, subst, sym}
 use Rattle.std.proofs.lemmas.List.{get_or_read}
 use Rattle.guest_memory.specs.Private.CodePages.{known_in, no_code, page_at}
 use Rattle.guest_memory.proofs.KeptCode.{Holds}

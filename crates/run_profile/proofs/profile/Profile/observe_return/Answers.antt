@@ -1,6 +1,5 @@
-use Rattle.std.proofs.Common.{arith, ◌≡◌, ◌∙◌, ◌∷◌, [], ap, refl, rules, subst, sym}
+use Rattle.std.proofs.Common.{◌≡◌, ◌∙◌, ◌∷◌, [], ap, refl, subst, sym}
 use Rattle.std.specs.Prelude.{IfOk, None, OnErr}
-use Rattle.trace_model.specs.declared.event_kinds.Event.{Event}
 use Rattle.trace_model.specs.declared.event_kinds.Event.TheVariants.{Ret}
 use Rattle.trace_model.specs.Depth.{is_within}
 use Rattle.trace_model.specs.Observing.{MayTake, Observes, StandsAsBefore}

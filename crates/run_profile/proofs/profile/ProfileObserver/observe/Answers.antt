@@ -1,4 +1,4 @@
-use Rattle.std.proofs.Common.{arith, ◌∙◌, ap, refl, subst, sym}
+use Rattle.std.proofs.Common.{arith, ◌∙◌, ap, subst, sym}
 use Rattle.run_profile.specs.Profile.{IsProfileOf, KeptRun}
 use Rattle.run_profile.proofs.Profiles.{few_steps, is_deep, not_taken, passed, recorded, refused, settled, waits}
 use Rattle.run_profile.proofs.profile.ProfileObserver.observe.Goals as goal

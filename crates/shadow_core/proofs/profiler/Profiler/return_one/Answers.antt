@@ -1,4 +1,4 @@
-use Rattle.std.proofs.Common.{◌==◌, ◌≡◌, ◌∙◌, ◌++◌, ◌∷◌, [], ap, arith, length, refl, subst, sym}
+use Rattle.std.proofs.Common.{◌==◌, ◌≡◌, ◌∙◌, ◌∷◌, [], ap, arith, refl, subst, sym}
 use Rattle.trace_model.specs.declared.event_kinds.Event.TheVariants.{Ret}
 use Rattle.trace_model.specs.declared.slow_profile.Done.{Done}
 use Rattle.call_tracker.specs.ThreadCalls.{Counts}
@@ -109,7 +109,7 @@ returns-in-One-clause-stands g c =
     recorded t c.args.target 1 _ c.return_to.new.self [] after may (sym one.0) ended
     ∙ ap (λ (k : State). finished (Ret t c.args.target) (table_of_state k)) c.self.view_is in
     λ past stands.
-        taken g.S.Stamp.MAX (Ret t c.args.target) past c.args.self.now _ [] after c.requires stands (deep_by_frames g.S.Stamp.MAX (Ret t c.args.target) c.args.self.now past stands) made kept
+    taken g.S.Stamp.MAX (Ret t c.args.target) past c.args.self.now _ [] after c.requires stands (deep_by_frames g.S.Stamp.MAX (Ret t c.args.target) c.args.self.now past stands) made kept
 
 pub returns-in-One-clause-pages : goal.returns-in-One-clause-pages
 returns-in-One-clause-pages g c =

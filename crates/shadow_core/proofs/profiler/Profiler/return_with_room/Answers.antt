@@ -1,9 +1,8 @@
-use Rattle.std.proofs.Common.{◌≡◌, ◌∙◌, ◌+◌, ◌≤◌, ◌++◌, ◌∷◌, [], ap, subst, sym}
+use Rattle.std.proofs.Common.{◌≡◌, ◌+◌, ◌≤◌, ◌++◌, subst, sym}
 use Rattle.std.specs.Prelude.{IsOk, OnErr, OnOk, vec_len}
 use Rattle.std.specs.Vec.{vec_capacity}
 use Rattle.trace_model.specs.Observing.{MayTake}
 use Rattle.trace_model.specs.declared.event_kinds.Event.TheVariants.{Ret}
-use Rattle.trace_model.specs.declared.slow_profile.Done.{Done}
 use Rattle.stamp_renumber.specs.Returned.{returned_by}
 use Rattle.stamp_renumber.specs.Threads.{calls_of}
 use Rattle.stamp_table.specs.Records.{finished}
