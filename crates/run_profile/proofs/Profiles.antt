@@ -196,36 +196,3 @@ stepped most Holds t n k new kept past p none stands holds = record {
   kept = subst (Holds kept (with_steps t n past)) (sym (ap (λ (o : Option Event). option_map_or (λ x. k.ended) o []) none)) holds;
   steps_are = omega (arith, p.steps_are, steps_more t n past);
 }
-
--- ---- Steps in a row, and an event behind them that is no step and ends nothing.
-module _ (most : ℕ) {K : Type 0} (Holds : K → List Event → List Done → Type 0) (t n : ℕ) (e : Event) (plain : steps (e ∷ []) ≡ 0) (k : KeptRun K)
-    (new : State) (kept : K) (past : List Event) (p : IsProfileOf most Holds k past) (none : k.next ≡ None) (taken : IsTaken most e (with_steps t n past) new [] []) where
-  abbrev before : List Event
-  before = with_steps t n past
-
-  counts : k.steps + n ≡ steps (e ∷ before)
-  counts = omega (arith, p.steps_are, steps_more t n past, one_more e before, plain)
-
-  -- the keeper took it
-  pub passed_after : (last : List Done) → Holds kept (e ∷ before) [] →
-      IsProfileOf most Holds (record k { stamps = new; kept = kept; ended = last; steps = k.steps + n }) (e ∷ before) × (is_within most (e ∷ before) ≡ true)
-  passed_after last holds =
-      let nothing : option_map_or (λ (x : Event). last) k.next [] ≡ [] = ap (λ (o : Option Event). option_map_or (λ x. last) o []) none in (
-        record {
-          stands = taken.stands;
-          earlier = e ∷ before;
-          all = sym (ap (λ o. option_to_list o ++ (e ∷ before)) none);
-          ended_is = nothing ∙ sym (ap (λ o. ended_at o (e ∷ before)) none);
-          kept = subst (Holds kept (e ∷ before)) (sym nothing) holds;
-          steps_are = counts;
-        },
-        taken.fits,
-      )
-
-  -- it is still to take it
-  pub waits_after : Holds kept before [] →
-      IsProfileOf most Holds (record k { stamps = new; kept = kept; next = Some e; ended = []; steps = k.steps + n }) (e ∷ before) × (is_within most (e ∷ before) ≡ true)
-  waits_after holds = (
-    record { stands = taken.stands; earlier = before; all = refl; ended_is = taken.recorded; kept = holds; steps_are = counts },
-    taken.fits,
-  )

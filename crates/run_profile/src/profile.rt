@@ -1,16 +1,16 @@
 //! The profile of a run that goes on.
-ghost use Rattle.std.specs.Prelude.{◌≡◌, ◌≤◌, ◌∷◌, [], List, None, true, false, Ok, IfOk, IfSome, IsOk, OnErr, OnOk};
+ghost use Rattle.std.specs.Prelude.{◌≡◌, ◌≤◌, ◌∷◌, [], List, None, true, false, Ok, IfOk, IsOk, OnErr, OnOk};
 ghost use Rattle.trace_model.specs.declared.event_kinds.Event.{Event};
-ghost use Rattle.trace_model.specs.declared.event_kinds.Event.TheVariants.{Read, Ret};
+ghost use Rattle.trace_model.specs.declared.event_kinds.Event.TheVariants.{Ret};
 ghost use Rattle.std.specs.Vec.{vec_capacity};
 ghost use Rattle.trace_model.specs.declared.observer.Observed.{Observed};
 ghost use Rattle.trace_model.specs.Depth.{is_within};
-ghost use Rattle.trace_model.specs.Observing.{MayStepBy, MayTake, MayTakeAfter, Observes, ObservesAfter, StandsAsBefore, StepsBy};
+ghost use Rattle.trace_model.specs.Observing.{MayStepBy, MayTake, Observes, StandsAsBefore, StepsBy};
 ghost use Rattle.trace_model.specs.Profile.{ended, steps};
 ghost use Rattle.run_profile.specs.Profile.{AreCountsOf, IsOfFormed, IsProfileOf};
 
 use crate::{Counts, Keeper};
-use guest_words::{Addr, Tid, Word};
+use guest_words::{Addr, Tid};
 use shadow_core::{ApplyError, Profiler};
 use stamp_lanes::Lanes;
 use std::alloc::{AllocError, Global};
@@ -52,21 +52,6 @@ fn steps_of(e: &Event) -> u64
     match *e {
         Event::Step { .. } => 1,
         _ => 0,
-    }
-}
-
-// The word that the event is a read of, if it is one of a word by the thread.
-#[inline(always)]
-fn word_read(e: &Event, tid: Tid) -> Option<Word>
-    ensures { IfSome result (λ w. e.now ≡ Read tid w 1) }
-{
-    match *e {
-        Event::Read {
-            tid: reader,
-            first,
-            count: 1,
-        } if reader == tid => Some(first),
-        _ => None,
     }
 }
 
@@ -196,47 +181,6 @@ impl<S: Lanes, K: Keeper> Profile<S, K> {
         }
     }
 
-    // Takes steps of a thread and then its read of a word, where the profiler takes both at once: true. Otherwise nothing changes:
-    // false.
-    #[inline(always)]
-    fn observe_read(&mut self, tid: Tid, count: u64, w: Word) -> bool
-        requires may { MayTakeAfter (IsProfileOf S.MAX K.holds) (is_within S.MAX) self.old tid count (Read tid w 1) }
-        requires some { 1 ≤ count }
-        ensures taken { result ≡ true → ObservesAfter (IsProfileOf S.MAX K.holds) (is_within S.MAX) tid count
-            (Read tid w 1) self.old self.new Observed.Taken }
-        ensures same { result ≡ false → self.new ≡ self.old }
-    {
-        if self.next.is_some() || !self.profiler.read_after(tid, count, w) {
-            return false;
-        }
-        self.kept.take_steps(tid, count);
-        self.steps += count;
-        let e = Event::Read {
-            tid,
-            first: w,
-            count: 1,
-        };
-        if !self.kept.pass(&e, &[]) {
-            self.ended.clear();
-            self.next = Some(e);
-        }
-        true
-    }
-
-    // Takes steps of a thread, and then an event.
-    #[inline(always)]
-    fn observe_each(&mut self, tid: Tid, count: u64, e: Event) -> Result<Observed, AllocError>
-        requires may { MayTakeAfter (IsProfileOf S.MAX K.holds) (is_within S.MAX) self.old tid count e }
-        requires some { 1 ≤ count }
-        ensures { IfOk result (ObservesAfter (IsProfileOf S.MAX K.holds) (is_within S.MAX) tid count e self.old self.new) }
-    {
-        self.observe_steps(tid, count)?;
-        match e {
-            Event::Ret { tid, target } => self.observe_return(tid, target),
-            _ => self.observe(e),
-        }
-    }
-
     /// What was kept of the run, and what was counted.
     pub fn into_kept(self) -> Result<(K, Counts), AllocError>
         requires { IsOfFormed S.MAX K.holds self }
@@ -307,13 +251,11 @@ impl<S: Lanes, K: Keeper> Observer for Profile<S, K> {
 
     #[inline(always)]
     fn observe_after(&mut self, tid: Tid, count: u64, e: Event) -> Result<Observed, AllocError> {
-        let Some(w) = word_read(&e, tid) else {
-            return self.observe_each(tid, count, e);
-        };
-        if self.observe_read(tid, count, w) {
-            return Ok(Observed::Taken);
+        self.observe_steps(tid, count)?;
+        match e {
+            Event::Ret { tid, target } => self.observe_return(tid, target),
+            _ => self.observe(e),
         }
-        self.observe_each(tid, count, e)
     }
 
     #[inline(always)]

@@ -1,6 +1,6 @@
 -- Steps of a thread in a row.
 use Rattle.std.proofs.Common.{◌≡◌, ℕ, zero, suc, ◌+◌, ◌<◌, ◌≤◌, ◌^◌, Bool, true, false, cond, List, [], ◌∷◌, Option, Some, None, refl, sym, ap, subst, ◌∙◌, arith}
-use Rattle.std.specs.Prelude.{◌==◌, is_some, reverse}
+use Rattle.std.specs.Prelude.{◌==◌, reverse}
 use Rattle.std.specs.Option.{option_map_or}
 use Rattle.guest_words.specs.ByThread.{value_of, with_value}
 use Rattle.trace_model.specs.declared.event_kinds.Event.{Event}
@@ -55,14 +55,6 @@ changed_twice xs t f g = by (value_of xs t) refl
     by (Some thread) is =
         ap (λ (o : Option Thread). option_map_or (λ (now : Thread). with_value (with_value xs t (f thread)) t (g now)) o (with_value xs t (f thread))) (value_there xs t (f thread) thread is)
         ∙ with_twice xs t (f thread) (g (f thread))
-
--- the pages of a thread that was changed
-pub own_pages : (xs : List (ℕ × Stamped)) (t : ℕ) (new : Stamped) → is_some (value_of xs t) ≡ true → pages_of (with_value xs t new) t ≡ new.pages
-own_pages xs t new lives = found (value_of xs t) refl lives
-  where
-    found : (o : Option Stamped) → value_of xs t ≡ o → is_some o ≡ true → pages_of (with_value xs t new) t ≡ new.pages
-    found None here some = absurd (cc)
-    found (Some was) here some = its_pages (with_value xs t new) t new (value_there xs t new was here)
 
 -- ---- Steps of the thread that made the last one.
 abbrev pub more_steps : ℕ → Thread → Thread

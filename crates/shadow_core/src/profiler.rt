@@ -5,7 +5,7 @@ ghost use Rattle.trace_model.specs.declared.event_kinds.Event.TheVariants.{Call,
 ghost use Rattle.std.specs.Vec.{vec_capacity};
 ghost use Rattle.trace_model.specs.Activations.{count_returned};
 ghost use Rattle.trace_model.specs.Depth.{count_begun, is_within, pending};
-ghost use Rattle.trace_model.specs.Observing.{MayStepBy, MayTake, MayTakeAfter, with_steps};
+ghost use Rattle.trace_model.specs.Observing.{MayStepBy, MayTake, with_steps};
 ghost use Rattle.shadow_pages.specs.Pages.{AreCovered, HasPlace, stamp_at};
 ghost use Rattle.stamp_renumber.specs.Threads.{all_starts, calls_of, pages_of};
 ghost use Rattle.shadow_core.specs.declared.apply_error.ApplyError.TheVariants.{Memory, TooDeep};
@@ -166,7 +166,6 @@ impl<S: Lanes> Profiler<S> {
         requires may { MayStepBy (StandsFor S.MAX) (is_within S.MAX) self.old tid count }
         requires some { 1 ≤ count }
         requires runs { self.old.last ≡ Some tid }
-        ensures accesses { pages_of self.new.live.threads tid ≡ pages_of self.old.live.threads tid }
         ensures pages { HasSamePages self.old self.new }
         ensures table { table_of_state self.new ≡ table_after_steps (bounded_tick S.MAX) tid count
             (table_of_state self.old) }
@@ -519,27 +518,6 @@ impl<S: Lanes> Profiler<S> {
         } else {
             self.read_old(tid, w, access);
         }
-    }
-
-    /// Takes `count` steps of a thread and then its read of a word, if the thread made the last step and has the word's page:
-    /// true. It does not allocate. Otherwise nothing changes: false.
-    #[inline(always)]
-    pub fn read_after(&mut self, tid: Tid, count: u64, w: Word) -> bool
-        requires may { MayTakeAfter (StandsFor S.MAX) (is_within S.MAX) self.old tid count (Read tid w 1) }
-        requires some { 1 ≤ count }
-        ensures taken { result ≡ true → (past : List Event) → StandsFor S.MAX self.old past
-            → IsTaken S.MAX (Read tid w 1) (with_steps tid count past) self.new [] [] }
-        ensures same { result ≡ false → self.new ≡ self.old }
-    {
-        if !is_running(self.last, tid) {
-            return false;
-        }
-        let Some(access) = access_of(&self.threads, tid, w) else {
-            return false;
-        };
-        self.steps_on(tid, count);
-        self.read_known(tid, w, access);
-        true
     }
 
     // The same, where the counter has moved.

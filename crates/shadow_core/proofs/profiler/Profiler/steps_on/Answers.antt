@@ -1,12 +1,11 @@
-use Rattle.std.proofs.Common.{◌∙◌, ap, refl, sym, subst, arith}
+use Rattle.std.proofs.Common.{refl, sym, subst, arith}
 use Rattle.trace_model.specs.Depth.{is_within}
 use Rattle.trace_model.specs.Observing.{MayStepBy}
-use Rattle.stamp_renumber.specs.Threads.{pages_of}
 use Rattle.shadow_core.specs.Profiling.{StandsFor}
 use Rattle.shadow_core.specs.State.{State}
 use Rattle.shadow_core.proofs.Profiled.{alive_for_step, lives_here}
 use Rattle.shadow_core.proofs.SamePages.{calls_alike, seen_same}
-use Rattle.shadow_core.proofs.Stepped.{may_step_once, own_pages, steps_fit, steps_made}
+use Rattle.shadow_core.proofs.Stepped.{may_step_once, steps_fit, steps_made}
 use Rattle.shadow_core.proofs.profiler.Profiler.steps_on.Goals as goal
 
 pub calls_mut-requires : goal.calls_mut-requires
@@ -37,10 +36,3 @@ pub overflow_add-self : goal.overflow_add-self
 overflow_add-self g c =
     let fits = steps_fit g.S.Stamp.MAX c.args.tid c.args.count _ _ c.calls_mut.result.now c.self.view_is c.requires.may c.requires.some c.calls_mut.ensures.value in
     omega (arith, fits.1)
-
-pub returns-clause-accesses : goal.returns-clause-accesses
-returns-clause-accesses g c =
-    let may = subst (λ (k : State). MayStepBy (StandsFor g.S.Stamp.MAX) (is_within g.S.Stamp.MAX) k c.args.tid c.args.count) (sym c.self.view_is) c.requires.may in
-    own_pages c.self.inside.threads.threads c.args.tid _
-    (lives_here _ c.args.tid (alive_for_step g.S.Stamp.MAX c.args.tid _ (may_step_once g.S.Stamp.MAX c.args.tid c.args.count _ may c.requires.some)))
-    ∙ ap (λ (k : State). pages_of k.live.threads c.args.tid) c.self.view_is
