@@ -65,7 +65,7 @@ module _ {W : Type 0} (Stands : W → List Event → Type 0) (fits : List Event 
         let same = sym (past_of_all tid n past events) in
         (subst (λ (p : List Event). Stands new (cut fits p)) same now.0, subst (λ (p : List Event). fits p ≡ is_taken observed) same now.1)
 
--- ---- steps in a row, and one event behind them
+-- ---- steps in a row, and one event after them
 module _ {W : Type 0} (Stands : W → List Event → Type 0) (fits : List Event → Bool) (tid n : ℕ) (e : Event) (old : W) where
   pub may_after : MayTakeAll Stands fits old (steps_of tid n ++ e ∷ []) → MayTakeAfter Stands fits old tid n e
   may_after may = record {

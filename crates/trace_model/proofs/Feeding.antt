@@ -52,7 +52,7 @@ steps_formed tid (suc n) k past low formed = elim (cases_eq k n) [
   | inr before ↦ steps_formed tid n k past (omega (arith, low, before)) formed.2
 ]
 
--- ---- and an event behind them
+-- ---- and an event after them
 module _ {O : Type 0} (Stands : O → List Event → Type 0) (fits : List Event → Bool) (tid n : ℕ) (e : Event) (old : O) where
   pub may_step_before : MayTakeAfter Stands fits old tid n e → MayStepBy Stands fits old tid n
   may_step_before may = record { past = may.past; now = may.now; fitting = may.fitting; formed = may.formed.2 }

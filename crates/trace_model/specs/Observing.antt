@@ -61,7 +61,7 @@ pub record MayStepBy {O : Type 0} (Stands : O → List Event → Type 0) (fits :
 abbrev pub StepsBy : {O : Type 0} → (O → List Event → Type 0) → (List Event → Bool) → ℕ → ℕ → O → O → Type 0
 StepsBy Stands fits tid count old new = (past : List Event) → Stands old past → fits past ≡ true → Stands new (with_steps tid count past)
 
--- ---- Steps of a thread in a row, and an event behind them.
+-- ---- Steps of a thread in a row, and an event after them.
 -- It stands for some past that fits and after which `count` steps of the thread and then the event may come.
 pub record MayTakeAfter {O : Type 0} (Stands : O → List Event → Type 0) (fits : List Event → Bool) (o : O) (tid count : ℕ) (e : Event) : Type 0 where
   pub past : List Event
