@@ -117,12 +117,46 @@ def sleeping(rounds: int) -> list[int]:
     return code.finish()
 
 
+def mmap(size: int) -> list[int]:
+    """The kernel's call that maps so many bytes anywhere."""
+    return [addi(10, 0, 0), *number(11, size), addi(12, 0, 3), addi(13, 0, 0x22), addi(14, 0, -1), addi(15, 0, 0), *syscall(NR_MMAP)]
+
+
 def mapping(rounds: int) -> list[int]:
     """A page is mapped and unmapped."""
     code = Code(number(8, rounds))
     code.label("loop")
-    code.put(addi(10, 0, 0), *number(11, 4096), addi(12, 0, 3), addi(13, 0, 0x22), addi(14, 0, -1), addi(15, 0, 0), *syscall(NR_MMAP))
-    code.put(*syscall(NR_MUNMAP))
+    code.put(*mmap(4096), *syscall(NR_MUNMAP))
+    again(code, 8, "loop")
+    code.put(*EXIT)
+    return code.finish()
+
+
+def mapping_behind(rounds: int) -> list[int]:
+    """The same where 13000 pages are mapped, over which the search for a free one goes."""
+    code = Code(number(8, rounds) + mmap(13000 * 4096))
+    code.label("loop")
+    code.put(*mmap(4096), *syscall(NR_MUNMAP))
+    again(code, 8, "loop")
+    code.put(*EXIT)
+    return code.finish()
+
+
+def overmapping(rounds: int) -> list[int]:
+    """More is asked for than can be mapped."""
+    code = Code(number(8, rounds))
+    code.label("loop")
+    code.put(*mmap(0x3E000000))
+    again(code, 8, "loop")
+    code.put(*EXIT)
+    return code.finish()
+
+
+def unmapping(rounds: int) -> list[int]:
+    """327680 pages are unmapped, of which none is mapped."""
+    code = Code(number(8, rounds))
+    code.label("loop")
+    code.put(*number(10, 0x20000000), *number(11, 0x50000000), *syscall(NR_MUNMAP))
     again(code, 8, "loop")
     code.put(*EXIT)
     return code.finish()
@@ -162,6 +196,9 @@ STORMS: list[tuple[str, Callable[[int], list[int]], int, int]] = [
     ("threads that begin and end", cloning, 500, 0),
     ("32 threads that sleep to the same times", sleeping, 50, 0),
     ("a page mapped and unmapped", mapping, 500, 0),
+    ("the same behind 13000 mapped pages", mapping_behind, 50, 0),
+    ("more mapped than there may be", overmapping, 500, 0),
+    ("327680 free pages unmapped", unmapping, 50, 0),
     ("the next instruction written anew", rewriting, 5_000, 0),
     ("reads of 1024 parts of a byte", scattering, 20, 1024),
 ]

@@ -161,12 +161,13 @@ pub(crate) fn mmap2(memory: &mut GuestMemory, caller: &Caller) -> Result<Answer,
         return Ok(Answer::Back { value: EINVAL });
     }
     let count = pages(bytes);
-    let Some(page) = first_fit(memory, count) else {
-        return Ok(Answer::Back { value: ENOMEM });
-    };
+    // before the search, which goes over that many pages
     if memory.mapped() + count > PAGES {
         return Ok(Answer::Back { value: ENOMEM });
     }
+    let Some(page) = first_fit(memory, count) else {
+        return Ok(Answer::Back { value: ENOMEM });
+    };
     map(memory, page, count, rights_of(caller.argument(2)))?;
     Ok(Answer::Back {
         value: page * PAGE_SIZE,

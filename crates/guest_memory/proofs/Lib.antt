@@ -10,3 +10,4 @@ pub mod Pigeons
 pub mod ReadBytes
 pub mod RemovedCode
 pub mod WrittenBytes
+pub mod Unmapped

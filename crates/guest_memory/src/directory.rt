@@ -1,10 +1,10 @@
 //! Pages by number, in tables of 1024 pages. An absent table has no page, and an absent page has no byte.
-ghost use Rattle.std.specs.Prelude.{true, None, ◌⊎◌, ◌≡◌, ◌<◌, ◌≤◌, ◌+◌, ◌^◌, ◌/◌, ◌%◌, ℕ, List, [], length, map, replicate, IfOk, OnOk};
+ghost use Rattle.std.specs.Prelude.{true, false, None, ◌⊎◌, ◌≡◌, ◌<◌, ◌≤◌, ◌+◌, ◌^◌, ◌/◌, ◌%◌, ℕ, List, [], length, map, replicate, IfOk, OnOk};
 ghost use Rattle.std.specs.Option.{is_some};
-ghost use Rattle.guest_memory.specs.Memory.{no_memory, with_bytes, with_pages, with_rights};
+ghost use Rattle.guest_memory.specs.Memory.{AreFree, no_memory, with_bytes, with_pages, with_rights};
 ghost use Rattle.guest_words.specs.declared.rights.Rights.{Rights};
 ghost use Rattle.guest_memory.specs.State.{memory_in, rights_of};
-ghost use Rattle.guest_memory.specs.Pages.{IsDirectory, page_of, overwritten, no_rights, IsPlaced, zeros};
+ghost use Rattle.guest_memory.specs.Pages.{IsDirectory, page_of, overwritten, no_rights, IsPlaced, table_of, zeros};
 
 use guest_words::Rights;
 use std::alloc::{AllocError, Global};
@@ -83,6 +83,14 @@ impl Directory {
         })
     }
 
+    /// Whether the table is there in which a page lies. If it is not, none of its pages is mapped.
+    pub fn has_table(&self, number: u32) -> bool
+        requires { number < 2 ^ 20 }
+        ensures { result ≡ false → table_of self.now number ≡ [] }
+    {
+        !self.tables[(number >> 10) as usize].is_empty()
+    }
+
     /// Makes the table in which a page lies.
     pub fn reserve_table(&mut self, alloc: Global, number: u32) -> Result<(), AllocError>
         requires { number < 2 ^ 20 }
@@ -96,6 +104,16 @@ impl Directory {
             self.tables[index] = table;
         }
         Ok(())
+    }
+
+    /// Drops the table of 1024 pages, none of which is mapped.
+    pub fn drop_table(&mut self, alloc: Global, first: u32)
+        requires range { first < 2 ^ 20 }
+        requires whole { first % 1024 ≡ 0 }
+        requires free { AreFree (memory_in self.old) first 1024 }
+        ensures { memory_in self.new ≡ memory_in self.old }
+    {
+        self.tables[(first >> 10) as usize] = Vec::new(alloc);
     }
 
     /// Puts a page of zeros, or of no byte, in its place.

@@ -14,7 +14,7 @@ ghost use Rattle.guest_words.specs.declared.limits.TheConstants.{PAGES};
 use crate::Size;
 use crate::code_cache::CodeCache;
 use crate::code_page::CodePage;
-use crate::directory::{Directory, PAGE_SIZE};
+use crate::directory::{Directory, PAGE_SIZE, TABLE_ENTRIES};
 use crate::page_ranges::zero_pages;
 use crate::refusal::{MemError, Permission};
 use guest_words::limits::PAGES;
@@ -26,6 +26,9 @@ use std::alloc::{AllocError, Global};
 const FIRST_OF_SEARCH: u32 = 0x40000;
 
 const END_OF_SEARCH: u32 = 0x7F000;
+
+// How many pages a table of the directory has.
+const TABLE_PAGES: u32 = TABLE_ENTRIES as u32;
 
 /// The memory of a guest: 2^20 pages of 4096 bytes, of which at most `PAGES` are mapped. A page is given by its number,
 /// a byte by its address. A byte at or past 2^32 is not mapped.
@@ -76,7 +79,27 @@ impl GuestMemory {
         requires { page + count ≤ 1048576 }
         ensures { memory_of self.new ≡ with_pages (memory_of self.old) page count None }
     {
-        let taken = self.directory.take_all(self.alloc, page, count);
+        // table by table, since a large range mostly has none
+        let mut done = 0;
+        'tables: while done < count {
+            let next = page + done;
+            let here = (count - done).min(TABLE_PAGES - next % TABLE_PAGES);
+            self.unmap_in_table(next, here);
+            done += here;
+        }
+    }
+
+    // The same for pages of one table.
+    fn unmap_in_table(&mut self, page: u32, count: u32)
+        requires some { 0 < count }
+        requires range { page + count ≤ 1048576 }
+        requires within { page % 1024 + count ≤ 1024 }
+        ensures { memory_of self.new ≡ with_pages (memory_of self.old) page count None }
+    {
+        if !self.directory.has_table(page) {
+            return;
+        }
+        let taken = self.directory.take_in_table(self.alloc, page, count);
         self.mapped -= taken;
         self.code.forget_pages(page, count);
     }

@@ -1,11 +1,11 @@
 //! Changes of ranges of pages.
-ghost use Rattle.std.specs.Prelude.{◌≡◌, ◌≤◌, ◌+◌, ◌^◌, IfOk, OnOk, All, Some, None, vec_len};
+ghost use Rattle.std.specs.Prelude.{◌≡◌, ◌<◌, ◌≤◌, ◌+◌, ◌%◌, ◌^◌, IfOk, OnOk, All, Some, None, vec_len};
 ghost use Rattle.std.specs.Option.{is_some};
 ghost use Rattle.guest_memory.specs.Memory.{AreFree, ArePagesMapped, mapped_pages, with_pages, with_rights};
 ghost use Rattle.guest_memory.specs.Pages.{ArePlaced, zeros};
 ghost use Rattle.guest_memory.specs.State.{memory_in};
 
-use crate::directory::{Directory, NO_RIGHTS, zero_page};
+use crate::directory::{Directory, NO_RIGHTS, TABLE_ENTRIES, zero_page};
 use guest_words::Rights;
 use std::alloc::{AllocError, Global};
 
@@ -69,6 +69,23 @@ impl Directory {
             if self.take(alloc, first + k) {
                 taken += 1;
             }
+        }
+        taken
+    }
+
+    /// Takes pages of one table away, and says how many of them were mapped. If they are all its pages, the table goes too, so
+    /// that it is not gone over again.
+    pub fn take_in_table(&mut self, alloc: Global, first: u32, count: u32) -> u32
+        requires some { 0 < count }
+        requires range { first + count ≤ 2 ^ 20 }
+        requires within { first % 1024 + count ≤ 1024 }
+        ensures memory { memory_in self.new ≡ with_pages (memory_in self.old) first count None }
+        ensures count { mapped_pages (memory_in self.new) + result
+            ≡ mapped_pages (memory_in self.old) }
+    {
+        let taken = self.take_all(alloc, first, count);
+        if count as usize == TABLE_ENTRIES {
+            self.drop_table(alloc, first);
         }
         taken
     }

@@ -9,6 +9,7 @@ pub mod Own
 pub mod Whole
 pub mod Renewed
 pub mod Counted
+pub mod Rare
 pub mod Runs
 pub mod Observing
 pub mod Room

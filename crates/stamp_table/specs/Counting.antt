@@ -16,6 +16,11 @@ counter_of most (e ∷ past) =
     let counter = counter_of most past in
     if ticks e (last_step past) then next_counter most counter (pending past) else counter
 
+-- how many of the events come with a tick
+abbrev pub tick_count : List Event → ℕ
+tick_count [] = 0
+tick_count (e ∷ past) = tick_count past + (if ticks e (last_step past) then 1 else 0)
+
 -- how many ticks found the counter at its greatest
 abbrev pub renumberings : ℕ → List Event → ℕ
 renumberings most [] = 0

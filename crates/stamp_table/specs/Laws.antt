@@ -1,9 +1,9 @@
 -- The stamp table gives the sizes of the definitions, whatever the greatest stamp is.
-use Rattle.std.specs.Prelude.{◌≡◌, ℕ, ◌<◌, ◌≤◌, true, List, [], ◌∷◌, length, map, Some}
+use Rattle.std.specs.Prelude.{◌≡◌, ℕ, ◌+◌, ◌-◌, ◌*◌, ◌<◌, ◌≤◌, true, List, [], ◌∷◌, ◌++◌, length, map, Some}
 use Rattle.guest_words.specs.ByThread.{value_of}
 use Rattle.trace_model.specs.declared.event_kinds.Event.{Event}
 use Rattle.trace_model.specs.Activations.{open_calls}
-use Rattle.trace_model.specs.Depth.{is_within}
+use Rattle.trace_model.specs.Depth.{is_within, pending}
 use Rattle.trace_model.specs.Profile.{done_of, ended, done}
 use Rattle.trace_model.specs.WellFormed.{IsWellFormed}
 use Rattle.shadow_stack.specs.Frames.{starts_of}
@@ -11,7 +11,7 @@ use Rattle.stamp_table.specs.Frames.{popped}
 use Rattle.stamp_table.specs.Table.{Thread, Table, empty_table}
 use Rattle.stamp_table.specs.Ticks.{table_at, table_after, table_of}
 use Rattle.stamp_table.specs.Renewal.{bounded_tick}
-use Rattle.stamp_table.specs.Counting.{counter_of}
+use Rattle.stamp_table.specs.Counting.{counter_of, renumberings, tick_count}
 use Rattle.stamp_table.specs.Records.{finished, finished_of, records}
 use Rattle.stamp_table.specs.Stands.{IsFalling, Agrees, IsCounted, Stands}
 
@@ -77,3 +77,13 @@ RunsAgree = (most : ℕ) (past : List Event) → IsWellFormed past →
 -- where a past fits, so does the counter at the event that follows
 abbrev pub CounterFits : Type 0
 CounterFits = (most : ℕ) (e : Event) (past : List Event) → is_within most past ≡ true → counter_of most (e ∷ past) ≤ most
+
+-- at no time of the past are more than so many activations open
+abbrev pub IsNeverDeeper : ℕ → List Event → Type 0
+IsNeverDeeper depth past = (later earlier : List Event) → later ++ earlier ≡ past → pending earlier ≤ depth
+
+-- Renumberings are rare: for each there are as many ticks as there are stamps above three for each activation that is open at
+-- one time and two more. So with 8 bits and at most `depth` open activations at most one tick in 253 - 3 * depth renumbers.
+abbrev pub RenumberingsAreRare : Type 0
+RenumberingsAreRare = (most depth : ℕ) (past : List Event) → IsNeverDeeper depth past →
+    renumberings most past * (most - (3 * depth + 2)) ≤ tick_count past

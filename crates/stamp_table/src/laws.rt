@@ -1,5 +1,5 @@
 //! Laws of the table: each is the contract of a function that does nothing.
-ghost use Rattle.stamp_table.specs.Laws.{AgreesOn, CounterFits, CountsOn, EmptyStands, FinishesWhatEnds, FinishesWhatIsDone, OpenAreAsDefined, RunsAgree, StandsOn, TicksKeepTheTable};
+ghost use Rattle.stamp_table.specs.Laws.{AgreesOn, CounterFits, CountsOn, EmptyStands, FinishesWhatEnds, FinishesWhatIsDone, OpenAreAsDefined, RenumberingsAreRare, RunsAgree, StandsOn, TicksKeepTheTable};
 ghost use Rattle.stamp_table.specs.Allows.{AllowsWhatMayFollow, CountsStayWithin, DeepDoesNotFit, FitsByFrames, PopsStayWithin, SumsStayWithin};
 ghost use Rattle.stamp_table.specs.Observing.{TakesEvents};
 ghost use Rattle.stamp_table.specs.Bulk.{ReadsAtOnce};
@@ -29,11 +29,13 @@ pub fn the_table_takes_events()
 {}
 
 /// The frames are as many as the open activations, and the counter and the renumberings are folds over the trace. The
-/// counter stays at most the greatest stamp where three stamps for each open activation and three more fit.
+/// counter stays at most the greatest stamp where three stamps for each open activation and three more fit. Renumberings are
+/// rare where few activations are open at once.
 pub fn the_counter_is_that_of_the_trace()
     ensures counts_on { CountsOn }
     ensures runs { RunsAgree }
     ensures fits { CounterFits }
+    ensures rare { RenumberingsAreRare }
 {}
 
 /// Which event may follow is a test of the table alone, and so is whether it fits. No sum passes the weight of the past and the

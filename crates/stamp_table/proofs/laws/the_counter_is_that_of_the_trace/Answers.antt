@@ -1,4 +1,5 @@
 use Rattle.stamp_table.proofs.Counted.{counter_fits}
+use Rattle.stamp_table.proofs.Rare.{renumberings_are_rare}
 use Rattle.stamp_table.proofs.Runs.{counts_on, runs_agree}
 use Rattle.stamp_table.proofs.laws.the_counter_is_that_of_the_trace.Goals as goal
 
@@ -10,3 +11,6 @@ returns-clause-runs c = runs_agree
 
 pub returns-clause-fits : goal.returns-clause-fits
 returns-clause-fits c = counter_fits
+
+pub returns-clause-rare : goal.returns-clause-rare
+returns-clause-rare c = renumberings_are_rare

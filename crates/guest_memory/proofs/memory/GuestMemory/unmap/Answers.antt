@@ -1,11 +1,16 @@
-use Rattle.std.proofs.Common.{None, sym, subst}
-use Rattle.guest_memory.specs.Private.HeldCode.{HoldsCode}
+use Rattle.std.proofs.Common.{◌∙◌, ◌+◌, None, ap, arith}
+use Rattle.guest_memory.specs.Memory.{Memory, with_pages}
+use Rattle.guest_memory.specs.Guest.{memory_of}
 use Rattle.guest_memory.specs.State.{memory_in}
-use Rattle.guest_memory.proofs.KeptCode.{agree_pages}
+use Rattle.guest_memory.proofs.Unmapped.{with_pages-more}
 use Rattle.guest_memory.proofs.memory.GuestMemory.unmap.Goals as goal
 
-pub invariant_of-self-clause-coherent : goal.invariant_of-self-clause-coherent
-invariant_of-self-clause-coherent c =
-    let m = memory_in c.args.self.now.directory in
-    subst (HoldsCode c.forget_pages.new.self) (sym c.take_all-taken.ensures.memory)
-    (c.forget_pages.ensures m _ (agree_pages m c.args.page c.args.count None) c.args.self.now.coherent)
+pub tables-preserved : goal.tables-preserved
+unfolding memory_of
+tables-preserved c = record {
+  few = omega arith;
+  memory =
+      c.unmap_in_table.ensures
+      ∙ ap (λ (m : Memory). with_pages m (c.args.page + c.tables.done) c.min-here.result None) c.tables.invariant.memory
+      ∙ with_pages-more (memory_in c.args.self.now.directory) c.args.page c.tables.done c.min-here.result None;
+}
