@@ -1,5 +1,5 @@
 -- One entry set in a directory, and one table made.
-use Rattle.std.proofs.Common.{◌≡◌, ◌≢◌, ℕ, ◌<◌, ◌≤◌, ◌/◌, ◌%◌, ◌^◌, List, [], length, get_or, set, arith, ap, ap₂, sym, ◌∙◌, subst, inl, inr, ◌⊎◌, map, Vec, Global, replicate, Option, Some, None}
+use Rattle.std.proofs.Common.{zero, suc, refl, ◌++◌, ◌∷◌, ◌≡◌, ◌≢◌, ℕ, ◌<◌, ◌≤◌, ◌/◌, ◌%◌, ◌^◌, List, [], length, get_or, set, arith, ap, ap₂, sym, ◌∙◌, subst, inl, inr, ◌⊎◌, map, Vec, Global, replicate, Option, Some, None}
 use Rattle.std.specs.Vec.{with_item}
 use Rattle.std.proofs.lemmas.Bool.{cases_eq, cases_lt}
 use Rattle.std.proofs.lemmas.List.{get_or-set_other, get_or-set_same, get_or_past, length-set, get_or-map, length-map, map-set, get_or-replicate, length-replicate}
@@ -42,10 +42,7 @@ table_kept d n x other has old = record {
 pub directory_kept : (d : List (List (Option ℕ))) (n : ℕ) (x : Option ℕ) → HasTable d n → IsDirectory d → IsDirectory (with_entry d n x)
 directory_kept d n x has h =
     let size = length-set d (n / 2 ^ 10) (set (table_of d n) (n % 1024) x) in
-    record {
-      top = size ∙ h.top;
-      tables = λ i low. let low2 : i < length d = omega arith in subst (λ k. (k ≡ 0) ⊎ (k ≡ 1024)) (sym (table_length d n x i has.table)) (h.tables i low2);
-    }
+    λ i low. let low2 : i < length d = omega arith in subst (λ k. (k ≡ 0) ⊎ (k ≡ 1024)) (sym (table_length d n x i has.table)) (h i low2)
 
 -- a page with a place has its table
 pub placed : (d : List (List (Option ℕ))) (n i : ℕ) → entry d n ≡ Some i → HasTable d n
@@ -120,13 +117,10 @@ table_with_table d a n lt none has =
 pub directory_with_table : (d : List (List (Option ℕ))) (a : ℕ) → a < length d → IsDirectory d → IsDirectory (with_table d a)
 directory_with_table d a lt h =
     let size = length-set d a (replicate 1024 no_place) in
-    record {
-      top = size ∙ h.top;
-      tables = λ i low. elim (cases_eq i a) [
-        | inl same ↦ inr (ap (λ (k : ℕ). length (get_or (with_table d a) k [])) same ∙ new_table_length d a lt)
-        | inr differs ↦ let low2 : i < length d = omega arith in subst (λ (t : List (Option ℕ)). (length t ≡ 0) ⊎ (length t ≡ 1024)) (sym (get_or-set_other d a i (replicate 1024 no_place) [] differs)) (h.tables i low2)
-      ];
-    }
+    λ i low. elim (cases_eq i a) [
+      | inl same ↦ inr (ap (λ (k : ℕ). length (get_or (with_table d a) k [])) same ∙ new_table_length d a lt)
+      | inr differs ↦ let low2 : i < length d = omega arith in subst (λ (t : List (Option ℕ)). (length t ≡ 0) ⊎ (length t ≡ 1024)) (sym (get_or-set_other d a i (replicate 1024 no_place) [] differs)) (h i low2)
+    ]
 
 pub table_added : (d : List (List (Option ℕ))) (tables : List (Vec (Option ℕ) Global)) (new : Vec (Option ℕ) Global) (a : ℕ) → map table_seen tables ≡ d → new.items ≡ replicate 1024 no_place → map table_seen (set tables a new) ≡ with_table d a
 table_added d tables new a seen fresh = map-set table_seen tables a new ∙ ap₂ (λ (v : List (List (Option ℕ))) (t : List (Option ℕ)). set v a t) seen fresh
@@ -136,21 +130,25 @@ table_read d tables table a seen lt is =
     let low : a < length tables = rw (← seen, length-map) at lt in
     ap (λ (v : List (List (Option ℕ))). get_or v a []) (sym seen) ∙ (get_or-map table_seen tables a table [] low ∙ ap table_seen (sym is))
 
--- a directory of empty tables
-no_tables : (n i : ℕ) → get_or (replicate n (let t : List (Option ℕ) = [] in t)) i [] ≡ []
-no_tables n i = elim (cases_lt i n) [
-  | inl low ↦ get_or-replicate n i [] [] low
-  | inr past ↦ let t : List (Option ℕ) = [] in let size = length-replicate n t in let over : length (replicate n t) ≤ i = omega arith in get_or_past (replicate n t) i [] over
+-- ---- a list of tables that grows by empty ones
+pub table_pushed : (d : List (List (Option ℕ))) (table : List (Option ℕ)) (i : ℕ) → table ≡ [] → get_or (d ++ table ∷ []) i [] ≡ get_or d i []
+table_pushed [] table zero none = none
+table_pushed [] table (suc i) none = refl
+table_pushed (t ∷ d) table zero none = refl
+table_pushed (t ∷ d) table (suc i) none = table_pushed d table i none
+
+-- the same tables, and empty ones behind them
+pub directory_grown : (d e : List (List (Option ℕ))) → ((i : ℕ) → get_or e i [] ≡ get_or d i []) → IsDirectory d → IsDirectory e
+directory_grown d e same h i low = elim (cases_lt i (length d)) [
+  | inl inside ↦ subst (λ (t : List (Option ℕ)). (length t ≡ 0) ⊎ (length t ≡ 1024)) (sym (same i)) (h i inside)
+  | inr past ↦ inl (ap (λ (t : List (Option ℕ)). length t) (same i ∙ get_or_past d i [] past))
 ]
 
-abbrev pub empty_directory : List (List (Option ℕ))
-empty_directory = replicate 1024 []
+pub entry_grown : (d e : List (List (Option ℕ))) (n : ℕ) → ((i : ℕ) → get_or e i [] ≡ get_or d i []) → entry e n ≡ entry d n
+entry_grown d e n same = ap (λ (t : List (Option ℕ)). get_or t (n % 1024) None) (same (n / 2 ^ 10))
 
-pub empty_is_directory : IsDirectory empty_directory
-empty_is_directory = record {
-  top = length-replicate 1024 (let t : List (Option ℕ) = [] in t);
-  tables = λ i low. inl (ap length (no_tables 1024 i));
+pub table_grown : (d e : List (List (Option ℕ))) (n : ℕ) → ((i : ℕ) → get_or e i [] ≡ get_or d i []) → length d ≤ length e → HasTable d n → HasTable e n
+table_grown d e n same longer has = record {
+  table = let low = has.table in omega (arith, low, longer);
+  entries = subst (λ (t : List (Option ℕ)). n % 1024 < length t) (sym (same (n / 2 ^ 10))) has.entries;
 }
-
-pub empty_entry : (n : ℕ) → entry empty_directory n ≡ None
-empty_entry n = ap (λ (t : List (Option ℕ)). get_or t (n % 1024) None) (no_tables 1024 (n / 2 ^ 10))

@@ -9,10 +9,9 @@ table_of d number = get_or d (number / 2 ^ 10) []
 abbrev pub entry : List (List (Option ℕ)) → ℕ → Option ℕ
 entry d number = get_or (table_of d number) (number % 1024) None
 
--- there are 1024 tables, and each has no entry or 1024
-pub record IsDirectory (d : List (List (Option ℕ))) : Type 0 where
-  pub top : length d ≡ 1024
-  pub tables : (i : ℕ) → i < length d → (length (get_or d i []) ≡ 0) ⊎ (length (get_or d i []) ≡ 1024)
+-- each table has no entry or 1024
+abbrev pub IsDirectory : List (List (Option ℕ)) → Type 0
+IsDirectory d = (i : ℕ) → i < length d → (length (get_or d i []) ≡ 0) ⊎ (length (get_or d i []) ≡ 1024)
 
 -- the table of the page is there
 pub record HasTable (d : List (List (Option ℕ))) (number : ℕ) : Type 0 where

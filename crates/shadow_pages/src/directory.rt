@@ -1,14 +1,15 @@
 //! The places of pages, by page number.
-ghost use Rattle.std.specs.Prelude.{◌≡◌, ◌≢◌, ◌<◌, ◌≤◌, ◌/◌, ◌^◌, ℕ, List, [], None, Some, IfOk, OnOk, map, replicate};
+ghost use Rattle.std.specs.Prelude.{◌≡◌, ◌≢◌, ◌<◌, ◌≤◌, ◌/◌, ◌^◌, ℕ, List, [], None, Some, IfOk, OnOk, get_or, length, map, replicate, vec_len};
 ghost use Rattle.shadow_pages.specs.Directory.{IsApart, IsDirectory, HasTable, HaveTables, entry, table_of};
 
 use std::alloc::{AllocError, Global};
 use std::marker::Model;
 
-// How many entries a table has, and how many tables there are.
+// How many entries a table has.
 const TABLE_ENTRIES: usize = 1024;
 
-/// For each page number below 2^20 the place of the page, or none. An absent table is an empty vector.
+/// For each page number below 2^20 the place of the page, or none. There are tables up to the last that was made; one that was
+/// not made is an empty vector.
 #[derive(Drop)]
 pub struct Directory {
     tables: Vec<Vec<Option<usize>>>,
@@ -26,13 +27,13 @@ impl Model for Directory {
 }
 
 impl Directory {
-    /// No place.
-    pub fn new(alloc: Global) -> Result<Directory, AllocError>
-        ensures { IfOk result (λ d. (n : ℕ) → entry d n ≡ None) }
+    /// No place. It does not allocate.
+    pub fn new(alloc: Global) -> Directory
+        ensures { (n : ℕ) → entry result n ≡ None }
     {
-        Ok(Directory {
-            tables: empty_tables(alloc)?,
-        })
+        Directory {
+            tables: Vec::new(alloc),
+        }
     }
 
     /// The place of a page.
@@ -41,11 +42,20 @@ impl Directory {
         requires { number < 2 ^ 20 }
         ensures { result ≡ entry self.now number }
     {
-        let table = &self.tables[(number >> 10) as usize];
+        let table = self.tables.get((number >> 10) as usize)?;
         table
             .get(number as usize % TABLE_ENTRIES)
             .copied()
             .flatten()
+    }
+
+    // Makes the list of tables reach to an index.
+    fn reach(&mut self, alloc: Global, index: usize) -> Result<(), AllocError>
+        ensures tables { (i : ℕ) → get_or self.new i [] ≡ get_or self.old i [] }
+        ensures longer { length self.old ≤ length self.new }
+        ensures reached { OnOk result (index < length self.new) }
+    {
+        grow(&mut self.tables, alloc, index)
     }
 
     /// Makes the table in which a page has its entry.
@@ -58,6 +68,7 @@ impl Directory {
             → table_of self.new n ≡ table_of self.old n }
     {
         let index = (number >> 10) as usize;
+        self.reach(alloc, index)?;
         if self.tables[index].is_empty() {
             let table = no_places(alloc)?;
             self.tables[index] = table;
@@ -90,15 +101,17 @@ impl Directory {
     }
 }
 
-// 1024 empty tables.
-fn empty_tables(alloc: Global) -> Result<Vec<Vec<Option<usize>>>, AllocError>
-    ensures { IfOk result (λ v. map (λ t. t.items) v.items ≡ replicate 1024 []) }
+// Appends empty tables, until there is one of this index.
+fn grow(tables: &mut Vec<Vec<Option<usize>>>, alloc: Global, index: usize) -> Result<(), AllocError>
+    ensures tables { (i : ℕ) → get_or (map (λ t. t.items) tables.new.items) i []
+        ≡ get_or (map (λ t. t.items) tables.old.items) i [] }
+    ensures longer { vec_len tables.old ≤ vec_len tables.new }
+    ensures reached { OnOk result (index < vec_len tables.new) }
 {
-    let mut tables = Vec::with_capacity(alloc, TABLE_ENTRIES)?;
-    'fill: while tables.len() < TABLE_ENTRIES {
+    'grow: while tables.len() <= index {
         tables.push(Vec::new(alloc))?;
     }
-    Ok(tables)
+    Ok(())
 }
 
 // The entries of a table that says no place.

@@ -20,7 +20,7 @@ struct Page<S: Stamp> {
     stamps: Vec<S>,
 }
 
-/// Stamps of words. Only `new` and `reserve` allocate, and only `reserve` makes pages.
+/// Stamps of words. Only `reserve` allocates and makes pages.
 #[derive(Drop)]
 pub struct Shadow<S: Stamp> {
     alloc: Global,
@@ -42,13 +42,13 @@ impl<S: Stamp> Model for Shadow<S> {
 impl<S: Stamp> Shadow<S> {
     ghost use Rattle.shadow_pages.specs.Lending.{LendsPage, LendsPageOf};
 
-    /// No page.
+    /// No page. It does not allocate.
     pub fn new(alloc: Global) -> Result<Shadow<S>, AllocError>
         ensures { IfOk result (λ s. s.pages ≡ []) }
     {
         Ok(Shadow {
             alloc,
-            directory: Directory::new(alloc)?,
+            directory: Directory::new(alloc),
             pages: Vec::new(alloc),
         })
     }

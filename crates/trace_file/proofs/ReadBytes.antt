@@ -33,7 +33,7 @@ nothing_behind (x ∷ xs) (y ∷ ys) b rest same unfinished =
     let first : x ≡ y = ap (λ zs. get_or zs 0 0) same in
     nothing_behind xs ys b rest (ap (drop 1) same) (λ behind equal. unfinished behind (ap₂ (λ a zs. a ∷ zs) first equal))
 
-begun_nothing : IsBegun IsRecord []
+pub begun_nothing : IsBegun IsRecord []
 begun_nothing = head_begun [] (begun_empty [] refl)
 
 goes_on_nothing : (f : Option Finish) → GoesOn f []
@@ -51,9 +51,9 @@ goes_begun f rest is goes = subst (λ o. GoesOn o rest) is goes
 goes_on_begun : (f : Option Finish) (rest : List ℕ) → f ≡ None → IsBegun IsRecord rest → GoesOn f rest
 goes_on_begun f rest is begun = subst (λ o. GoesOn o rest) (sym is) begun
 
--- the bytes with one more
-pub text_push : (text held bytes : List ℕ) (b : ℕ) → bytes ≡ text ++ held → bytes ++ b ∷ [] ≡ text ++ (held ++ b ∷ [])
-text_push text held bytes b is = ap (λ y. y ++ b ∷ []) is ∙ append_assoc text held (b ∷ [])
+-- the bytes with more
+pub text_push : (text held bytes more : List ℕ) → bytes ≡ text ++ held → bytes ++ more ≡ text ++ (held ++ more)
+text_push text held bytes more is = ap (λ y. y ++ more) is ∙ append_assoc text held more
 
 pub open_of : (s : ReaderState) (bytes : List ℕ) (past : List Event) → IsAtRecord s bytes past → s.finish ≡ None → IsOpen s past
 open_of s bytes past is ends = record { told = is.leads.told; order = is.order; finish = ends }
@@ -65,27 +65,27 @@ whole_held s bytes past b r rest is ends fits text =
     let none = nothing_behind s.held (record_bytes r) b rest text (λ behind. begun.unfinished (record_bytes r) behind (r, fits, refl)) in
     text ∙ ap (λ y. record_bytes r ++ y) none ∙ append-nil (record_bytes r)
 
-pub taken : (s mid new : ReaderState) (bytes : List ℕ) (past : List Event) (b : ℕ) (r : Record) → IsAtRecord s bytes past → mid ≡ record s { held = s.held ++ b ∷ [] } → s.held ++ b ∷ [] ≡ record_bytes r →
-    IsTaken mid new past r → IsAtRecord new (bytes ++ b ∷ []) (past_after past (said r))
-taken s mid new bytes past b r is same text step =
+pub taken : (s mid new : ReaderState) (bytes : List ℕ) (past : List Event) (more : List ℕ) (r : Record) (size : ℕ) → IsAtRecord s bytes past → mid ≡ record s { held = mid.held } → s.held ++ more ≡ record_bytes r →
+    size ≡ length (record_bytes r) → IsTaken size mid new past r → IsAtRecord new (bytes ++ more) (past_after past (said r))
+taken s mid new bytes past more r size is same text whole_size step =
     let added = step.added in
     let at_mid : records (told_by mid past) ≡ records (told_by s past) = ap (λ (m : ReaderState). records (told_by m past)) same in
     let whole : told_text (told_by new (past_after past (said r))) ≡ told_text (told_by s past) ++ record_bytes r = ap text_of (added.records ∙ ap (λ rs. rs ++ r ∷ []) at_mid) ∙ text_more (records (told_by s past)) r in
-    let at : new.at ≡ s.at + length (s.held ++ b ∷ []) = step.at ∙ ap (λ (m : ReaderState). m.at + length m.held) same in
+    let at : new.at ≡ s.at + size = step.at ∙ ap (λ (m : ReaderState). m.at + size) same in
     record {
       line = added.line ∙ ap (λ (m : ReaderState). m.line) same ∙ is.line;
       leads = record {
         told = added.told;
-        text = text_push (told_text (told_by s past)) s.held bytes b is.leads.text ∙ ap (λ y. told_text (told_by s past) ++ y) text ∙ sym whole ∙ sym (append-nil _) ∙ ap (λ y. told_text (told_by new (past_after past (said r))) ++ y) (sym step.held);
+        text = text_push (told_text (told_by s past)) s.held bytes more is.leads.text ∙ ap (λ y. told_text (told_by s past) ++ y) text ∙ sym whole ∙ sym (append-nil _) ∙ ap (λ y. told_text (told_by new (past_after past (said r))) ++ y) (sym step.held);
       };
       order = added.order;
-      place = at ∙ ap₂ (λ a n. a + n) is.place (ap length text) ∙ sym (length-append (told_text (told_by s past)) (record_bytes r)) ∙ ap length (sym whole);
+      place = at ∙ ap₂ (λ a n. a + n) is.place whole_size ∙ sym (length-append (told_text (told_by s past)) (record_bytes r)) ∙ ap length (sym whole);
       goes_on = subst (λ held. GoesOn new.finish held) (sym step.held) (goes_on_nothing new.finish);
     }
 
 -- the next record begins behind it
-pub taken_of : (old mid new : ReaderState) (past : List Event) (r : Record) → IsAdded old mid past r → new ≡ record mid { held = []; at = old.at + length old.held } → IsTaken old new past r
-taken_of old mid new past r added same = subst (λ n. IsTaken old n past r) (sym same) (record {
+pub taken_of : (old mid new : ReaderState) (past : List Event) (r : Record) (size : ℕ) → IsAdded old mid past r → new ≡ record mid { held = []; at = old.at + size } → IsTaken size old new past r
+taken_of old mid new past r size added same = subst (λ n. IsTaken size old n past r) (sym same) (record {
   added = record { told = added.told; order = added.order; records = added.records; line = added.line };
   held = refl;
   at = refl;
@@ -95,7 +95,7 @@ taken_of old mid new past r added same = subst (λ n. IsTaken old n past r) (sym
 pub held_more : (s new : ReaderState) (bytes : List ℕ) (past : List Event) (b : ℕ) → IsAtRecord s bytes past → s.finish ≡ None → new ≡ record s { held = s.held ++ b ∷ [] } → IsBegun IsRecord (s.held ++ b ∷ []) → IsAtRecord new (bytes ++ b ∷ []) past
 held_more s new bytes past b is ends same begun = subst (λ n. IsAtRecord n (bytes ++ b ∷ []) past) (sym same) (record {
   line = is.line;
-  leads = record { told = is.leads.told; text = text_push (told_text (told_by s past)) s.held bytes b is.leads.text };
+  leads = record { told = is.leads.told; text = text_push (told_text (told_by s past)) s.held bytes (b ∷ []) is.leads.text };
   order = is.order;
   place = is.place;
   goes_on = goes_on_begun s.finish (s.held ++ b ∷ []) ends begun;
@@ -106,7 +106,7 @@ no_form s bytes past b at is ends place none = (
   record {
     told = told_by s past;
     rest = s.held ++ b ∷ [];
-    leads = record { told = is.leads.told; text = text_push (told_text (told_by s past)) s.held bytes b is.leads.text };
+    leads = record { told = is.leads.told; text = text_push (told_text (told_by s past)) s.held bytes (b ∷ []) is.leads.text };
     events = refl;
     place = place ∙ is.place;
     misformed = subst (λ o. IsMisformed o (s.held ++ b ∷ [])) (sym ends) none;
@@ -114,12 +114,12 @@ no_form s bytes past b at is ends place none = (
   λ same. cc,
 )
 
-pub no_memory : (s : ReaderState) (bytes : List ℕ) (past : List Event) (b : ℕ) → IsAtRecord s bytes past → IsTraceRefused (bytes ++ b ∷ []) past errors.Memory × (errors.Memory ≢ errors.Short)
-no_memory s bytes past b is = (
+pub no_memory : (s : ReaderState) (bytes : List ℕ) (past : List Event) (more : List ℕ) → IsAtRecord s bytes past → IsTraceRefused (bytes ++ more) past errors.Memory × (errors.Memory ≢ errors.Short)
+no_memory s bytes past more is = (
   inr (record {
     told = told_by s past;
-    rest = s.held ++ b ∷ [];
-    leads = record { told = is.leads.told; text = text_push (told_text (told_by s past)) s.held bytes b is.leads.text };
+    rest = s.held ++ more;
+    leads = record { told = is.leads.told; text = text_push (told_text (told_by s past)) s.held bytes more is.leads.text };
     events = refl;
   }),
   λ same. cc,
@@ -130,7 +130,7 @@ behind_end s bytes past f b at is ends place = (
   record {
     told = told_by s past;
     rest = s.held ++ b ∷ [];
-    leads = record { told = is.leads.told; text = text_push (told_text (told_by s past)) s.held bytes b is.leads.text };
+    leads = record { told = is.leads.told; text = text_push (told_text (told_by s past)) s.held bytes (b ∷ []) is.leads.text };
     events = refl;
     place = place ∙ is.place;
     misformed = subst (λ o. IsMisformed o (s.held ++ b ∷ [])) (sym ends) (full s.held b);
@@ -143,16 +143,16 @@ behind_end s bytes past f b at is ends place = (
     full (x ∷ xs) b none = cc
 
 -- what is not added
-pub not_added : (s mid : ReaderState) (bytes : List ℕ) (past : List Event) (b : ℕ) (r : Record) (e : TraceError) → IsAtRecord s bytes past → s.finish ≡ None → Fits r → mid ≡ record s { held = s.held ++ b ∷ [] } → s.held ++ b ∷ [] ≡ record_bytes r →
-    IsNotAdded mid past r e → IsTraceRefused (bytes ++ b ∷ []) past e × (e ≢ errors.Short)
-not_added s mid bytes past b r errors.Magic is ends fits same text why = absurd why
-not_added s mid bytes past b r (errors.Record at) is ends fits same text why = absurd why
-not_added s mid bytes past b r (errors.Order at) is ends fits same text why = (
+pub not_added : (s mid : ReaderState) (bytes : List ℕ) (past : List Event) (more : List ℕ) (r : Record) (e : TraceError) → IsAtRecord s bytes past → s.finish ≡ None → Fits r → mid ≡ record s { held = mid.held } → s.held ++ more ≡ record_bytes r →
+    IsNotAdded mid past r e → IsTraceRefused (bytes ++ more) past e × (e ≢ errors.Short)
+not_added s mid bytes past more r errors.Magic is ends fits same text why = absurd why
+not_added s mid bytes past more r (errors.Record at) is ends fits same text why = absurd why
+not_added s mid bytes past more r (errors.Order at) is ends fits same text why = (
   record {
     told = told_by s past;
     first = r;
     rest = [];
-    leads = record { told = is.leads.told; text = text_push (told_text (told_by s past)) s.held bytes b is.leads.text ∙ ap (λ y. told_text (told_by s past) ++ y) (text ∙ sym (append-nil (record_bytes r))) };
+    leads = record { told = is.leads.told; text = text_push (told_text (told_by s past)) s.held bytes more is.leads.text ∙ ap (λ y. told_text (told_by s past) ++ y) (text ∙ sym (append-nil (record_bytes r))) };
     events = refl;
     place = why.0 ∙ ap (λ (m : ReaderState). m.at) same ∙ is.place;
     fits = fits;
@@ -161,8 +161,8 @@ not_added s mid bytes past b r (errors.Order at) is ends fits same text why = (
   },
   λ same. cc,
 )
-not_added s mid bytes past b r errors.Short is ends fits same text why = absurd why
-not_added s mid bytes past b r errors.Memory is ends fits same text why = no_memory s bytes past b is
+not_added s mid bytes past more r errors.Short is ends fits same text why = absurd why
+not_added s mid bytes past more r errors.Memory is ends fits same text why = no_memory s bytes past more is
 
 -- ---- the first line
 abbrev IsByteOf : ℕ → ℕ → Type 0

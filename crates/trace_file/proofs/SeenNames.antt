@@ -10,7 +10,7 @@ use Rattle.guest_words.specs.Names.{is_visible}
 use Rattle.trace_file.specs.declared.records.Form.TheVariants.{Named}
 use Rattle.trace_file.specs.Pieces.{IsBegun, IsRecord}
 use Rattle.trace_file.specs.Private.RecordParts.{body}
-use Rattle.trace_file.specs.Records.{AreInRanges, head, number_bytes, ranges}
+use Rattle.trace_file.specs.Records.{head, number_bytes}
 use Rattle.trace_file.specs.Private.Seen.{IsSeen}
 use Rattle.trace_file.proofs.Bodies.{behind_head, name_parts}
 use Rattle.trace_file.proofs.NameBytes.{is_visible_name}

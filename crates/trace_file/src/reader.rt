@@ -1,18 +1,18 @@
 //! Reading a trace, in any pieces.
-ghost use Rattle.std.specs.Prelude.{◌≡◌, ◌≢◌, ◌≤◌, ◌<◌, ◌^◌, ◌+◌, ◌++◌, ◌∷◌, [], ℕ, List, None, Some, length, Err, get_or, IfErr, IsOk, is_some, true, vec_len, IfOk, IsTrue, OnErr, OnOk, ◌↔◌};
+ghost use Rattle.std.specs.Prelude.{◌≡◌, ◌≢◌, ◌≤◌, ◌<◌, ◌^◌, ◌+◌, ◌++◌, ◌∷◌, [], ℕ, List, None, Some, length, Err, get_or, IfErr, IsOk, is_some, true, take, vec_len, IfOk, IfSome, IsTrue, OnErr, OnOk, ◌↔◌};
 ghost use Rattle.std.specs.Result.{result_err};
 ghost use Rattle.trace_file.specs.declared.errors.TraceError.{TraceError};
 ghost use Rattle.guest_words.specs.declared.endings.Finish.{Finish};
 ghost use Rattle.trace_model.specs.declared.event_kinds.Event.{Event};
 ghost use Rattle.trace_file.specs.declared.records.Record.TheVariants.{OfEvent, OfName, OfFinish};
-ghost use Rattle.trace_file.specs.Records.{Fits};
+ghost use Rattle.trace_file.specs.Records.{Fits, record_bytes};
 ghost use Rattle.std.specs.Vec.{vec_capacity};
 ghost use Rattle.trace_file.specs.Reading.{HasFed, HasRead, IsAtRecord, IsReading, IsTraceRefused, MayFeed, RunsOutOfMemory};
-ghost use Rattle.trace_file.specs.Private.Steps.{IsAdded, IsFed, IsInOrder, IsNotAdded, IsOpen, IsTaken, MayReadByte, said};
+ghost use Rattle.trace_file.specs.Private.Steps.{IsAdded, IsBetween, IsFed, IsInOrder, IsNotAdded, IsOpen, IsTaken, MayReadByte, said};
 ghost use Rattle.trace_file.specs.TraceText.{IsRising, IsTrace, magic};
 
 use crate::errors::TraceError;
-use crate::record_reader::{Stop, read_record};
+use crate::record_reader::{Stop, read_record, record_size};
 use crate::records::{MAGIC, RECORD_BYTES, Record};
 use guest_words::{Addr, Finish, Name};
 use std::alloc::{AllocError, Global};
@@ -175,13 +175,18 @@ impl TraceReader {
         }
     }
 
-    // Adds the record whose bytes are held, behind which the next one begins.
-    fn take_record(&mut self, next: Record, events: &mut Events) -> Result<(), TraceError>
+    // Adds a record of `size` bytes, behind which the next one begins.
+    fn take_record(
+        &mut self,
+        next: Record,
+        size: usize,
+        events: &mut Events,
+    ) -> Result<(), TraceError>
         requires begun { (past : List Event) × IsOpen self.old past }
         requires fits { Fits next }
-        requires place { self.old.at + length self.old.held < 2 ^ 64 }
+        requires place { self.old.at + size < 2 ^ 64 }
         ensures ok { (past : List Event) → IsOpen self.old past
-            → OnOk result (IsTaken self.old self.new past next) }
+            → OnOk result (IsTaken size self.old self.new past next) }
         ensures err { (past : List Event) → IsOpen self.old past
             → IfErr result (λ x. IsNotAdded self.old past next x) }
         ensures memory { (past : List Event) → IsOpen self.old past
@@ -190,7 +195,7 @@ impl TraceReader {
         ensures appended { OnOk result (events.new.list ≡ events.old.list ++ said next) }
         ensures kept { OnErr result (events.new.list ≡ events.old.list) }
     {
-        let place = self.at + self.held.len() as u64;
+        let place = self.at + size as u64;
         self.add_record(next, events)?;
         self.at = place;
         self.held.clear();
@@ -209,7 +214,7 @@ impl TraceReader {
         let known = self.held.len();
         push_byte(&mut self.held, byte);
         match read_record(self.alloc, &self.held, known) {
-            Ok(next) => self.take_record(next, events),
+            Ok(next) => self.take_record(next, known + 1, events),
             Err(Stop::Begun) => Ok(()),
             Err(Stop::NoForm) => Err(TraceError::Record { at: self.at }),
             Err(Stop::Memory { entry }) => Err(self.refuse_name(entry)),
@@ -270,6 +275,74 @@ impl TraceReader {
         read
     }
 
+    // The record that stands first in a piece, if it is whole and none is begun, and how many bytes it has.
+    fn next_whole(&self, piece: &[u8]) -> Option<(Record, usize)>
+        ensures between { IfSome result (λ next. IsBetween self.now) }
+        ensures fits { IfSome result (λ next. Fits next.0) }
+        ensures text { IfSome result (λ next. take next.1 piece.now ≡ record_bytes next.0) }
+        ensures within { IfSome result (λ next. (1 ≤ next.1) × (next.1 ≤ length piece.now)) }
+    {
+        if self.line < MAGIC.len() || self.finish.is_some() || !self.held.is_empty() {
+            return None;
+        }
+        match read_record(self.alloc, piece, 0) {
+            Ok(next) => {
+                let size = record_size(&next);
+                Some((next, size))
+            }
+            Err(_) => None,
+        }
+    }
+
+    // Adds a record of `size` bytes that is whole, where none is begun, and keeps the refusal.
+    fn take_whole(
+        &mut self,
+        next: Record,
+        size: usize,
+        events: &mut Events,
+    ) -> Result<(), TraceError>
+        requires begun { (past : List Event) × IsOpen self.old past }
+        requires between { IsBetween self.old }
+        requires none { self.old.refusal ≡ None }
+        requires fits { Fits next }
+        requires size { size ≡ length (record_bytes next) }
+        requires place { self.old.at + size < 2 ^ 64 }
+        ensures fed { HasFed self.old self.new (record_bytes next) events.old.list events.new.list }
+        ensures answer { self.new.refusal ≡ result_err result }
+        ensures memory { IfErr result (λ e. e ≡ TraceError.Memory → RunsOutOfMemory HasRead
+            self.old self.new (record_bytes next) events.old.list events.new.list) }
+    {
+        let read = self.take_record(next, size, events);
+        self.refusal = read.err();
+        read
+    }
+
+    // Reads the first bytes of a piece, and says how many: those of a whole record, or one. The refusal is kept.
+    fn take_part(&mut self, piece: &[u8], events: &mut Events) -> Result<usize, TraceError>
+        requires reading { MayFeed self.old piece.now }
+        requires none { self.old.refusal ≡ None }
+        requires some { 1 ≤ length piece.now }
+        ensures within { IfOk result (λ count. (1 ≤ count) × (count ≤ length piece.now)) }
+        ensures fed { IfOk result (λ count. HasFed self.old self.new (take count piece.now)
+            events.old.list events.new.list) }
+        ensures none { OnOk result (self.new.refusal ≡ None) }
+        ensures refused { IfErr result (λ e. (self.new.refusal ≡ Some e)
+            × HasFed self.old self.new piece.now events.old.list events.new.list) }
+        ensures memory { IfErr result (λ e. e ≡ TraceError.Memory → RunsOutOfMemory HasRead
+            self.old self.new piece.now events.old.list events.new.list) }
+    {
+        match self.next_whole(piece) {
+            Some((next, size)) => {
+                self.take_whole(next, size, events)?;
+                Ok(size)
+            }
+            None => {
+                self.take_byte(piece[0], events)?;
+                Ok(1)
+            }
+        }
+    }
+
     /// Nothing is read.
     pub fn new(alloc: Global) -> Result<TraceReader, AllocError>
         ensures { IfOk result (λ r. HasRead r [] []) }
@@ -300,8 +373,9 @@ impl TraceReader {
         if let Some(e) = self.refusal {
             return Err(e);
         }
-        for byte in piece {
-            self.take_byte(*byte, events)?;
+        let mut read = 0;
+        'parts: while read < piece.len() {
+            read += self.take_part(&piece[read..], events)?;
         }
         Ok(())
     }

@@ -412,3 +412,43 @@ pub fn read_record(alloc: Global, bytes: &[u8], known: usize) -> Result<Record, 
     let (form, body) = read_head(bytes)?;
     read_body(alloc, form, body, known.saturating_sub(NAME_AT))
 }
+
+/// How many bytes a record has.
+pub fn record_size(record: &Record) -> usize
+    requires { Fits record.now }
+    ensures { result ≡ length (record_bytes record.now) }
+{
+    match record {
+        Record::OfEvent(e) => event_size(e),
+        Record::OfName(_, name) => NAME_AT + name.bytes().len(),
+        Record::OfFinish(f) => finish_size(f),
+    }
+}
+
+// How many bytes the record of an event has.
+fn event_size(e: &Event) -> usize
+    ensures { result ≡ length (record_bytes (OfEvent e.now)) }
+{
+    match *e {
+        Event::Step { .. } => 5,
+        Event::Read { .. } => 13,
+        Event::Write { .. } => 13,
+        Event::Fill { .. } => 9,
+        Event::Call { .. } => 13,
+        Event::Ret { .. } => 9,
+        Event::Start { .. } => 9,
+        Event::End { .. } => 5,
+    }
+}
+
+// How many bytes the record of an end has.
+fn finish_size(f: &Finish) -> usize
+    ensures { result ≡ length (record_bytes (OfFinish f.now)) }
+{
+    match *f {
+        Finish::Budget | Finish::Deadlock | Finish::Deep => 2,
+        Finish::Exit { .. } => 6,
+        Finish::Schedule { .. } => 10,
+        Finish::Fault { .. } => 14,
+    }
+}

@@ -1,5 +1,5 @@
 -- Steps of a reader.
-use Rattle.std.specs.Prelude.{◌≡◌, ◌≢◌, ℕ, ◌+◌, ◌<◌, ◌^◌, List, [], ◌∷◌, ◌++◌, length, None, Result, Ok, Err}
+use Rattle.std.specs.Prelude.{◌≡◌, ◌≢◌, ℕ, ◌+◌, ◌<◌, ◌≤◌, ◌^◌, List, [], ◌∷◌, ◌++◌, length, None, Result, Ok, Err}
 use Rattle.trace_model.specs.declared.event_kinds.Event.{Event}
 use Rattle.trace_model.specs.Cut.{past_after}
 use Rattle.trace_order.specs.Order.{IsOrderOf}
@@ -8,7 +8,7 @@ use Rattle.trace_file.specs.declared.records.Record.TheVariants.{OfEvent}
 use Rattle.trace_file.specs.declared.errors.TraceError.{TraceError}
 use Rattle.trace_file.specs.declared.errors.TraceError.TheVariants as errors
 use Rattle.trace_file.specs.Reading.{IsOutOfOrder, IsTraceRefused, ReaderState, told_by}
-use Rattle.trace_file.specs.TraceText.{IsTold, records}
+use Rattle.trace_file.specs.TraceText.{IsTold, magic, records}
 
 -- the events that a record says
 abbrev pub said : Record → List Event
@@ -39,11 +39,17 @@ abbrev pub IsInOrder : ReaderState → List Event → Record → TraceError → 
 IsInOrder s past r errors.Memory = IsOutOfOrder (told_by s past) r → ⊥
 IsInOrder s past r e = Unit {0}
 
--- It is added, and the next record begins behind its bytes.
-pub record IsTaken (old new : ReaderState) (past : List Event) (r : Record) : Type 0 where
+-- It is added, and the next record begins behind its `size` bytes.
+pub record IsTaken (size : ℕ) (old new : ReaderState) (past : List Event) (r : Record) : Type 0 where
   pub added : IsAdded old new past r
   pub held : new.held ≡ []
-  pub at : new.at ≡ old.at + length old.held
+  pub at : new.at ≡ old.at + size
+
+-- It is behind the first line and before the end, and no record is begun.
+pub record IsBetween (s : ReaderState) : Type 0 where
+  pub line : length magic ≤ s.line
+  pub finish : s.finish ≡ None
+  pub held : s.held ≡ []
 
 -- It goes on, or it has refused.
 abbrev pub GoesOnOr : (ReaderState → List ℕ → List Event → Type 0) → ReaderState → List ℕ → List Event → Result (Unit {0}) TraceError → Type 0

@@ -1,4 +1,4 @@
-use Rattle.std.proofs.Common.{arith, sym, ap, ◌∙◌}
+use Rattle.std.proofs.Common.{◌∷◌, [], arith, sym, ap, ◌∙◌}
 use Rattle.std.proofs.lemmas.Result.{IfErr-weaker}
 use Rattle.trace_file.specs.Reading.{ReaderState}
 use Rattle.trace_file.proofs.Feeding.{fed_behind, fed_line, fed_record, wants_record}
@@ -17,9 +17,9 @@ returns-in-Some-clause-fed c =
 pub returns-in-None-clause-fed : goal.returns-in-None-clause-fed
 returns-in-None-clause-fed c =
     let line = ap (λ (s : ReaderState). s.line) c.self.view_is in
-    fed_record c.args.self.now _ c.args.byte _ _ c.read_byte.result (omega (arith, line)) c.read_byte.ensures.fed
+    fed_record c.args.self.now _ (c.args.byte ∷ []) _ _ c.read_byte.result (omega (arith, line)) c.read_byte.ensures.fed
 
 pub returns-in-None-clause-memory : goal.returns-in-None-clause-memory
 returns-in-None-clause-memory c =
     let line = ap (λ (s : ReaderState). s.line) c.self.view_is in
-    IfErr-weaker c.read_byte.result _ _ (λ e wants memory. wants_record c.args.self.now _ c.args.byte _ _ (omega (arith, line)) (wants memory)) c.read_byte.ensures.memory
+    IfErr-weaker c.read_byte.result _ _ (λ e wants memory. wants_record c.args.self.now _ (c.args.byte ∷ []) _ _ (omega (arith, line)) (wants memory)) c.read_byte.ensures.memory
