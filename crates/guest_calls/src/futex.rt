@@ -54,7 +54,6 @@ fn is_limit_denied(memory: &GuestMemory, caller: &Caller, operation: Operation) 
 }
 
 // Whether it is a wait whose limit, which can be read, is a bad time.
-#[tactic(auto, using(crate::proofs::Passed::asked_reach))]
 fn is_limit_bad(memory: &GuestMemory, caller: &Caller, operation: Operation) -> bool
     requires { ((is_wait operation && not (slice_index caller.now.cpu.regs 13 == 0))
         && not (can_read (memory_of memory.now) (slice_index caller.now.cpu.regs 13) 16)) ≡ false }

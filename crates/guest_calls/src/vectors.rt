@@ -48,7 +48,6 @@ fn part_at(memory: &GuestMemory, at: Addr) -> IoVec
 }
 
 /// `count` parts, from an address on.
-#[tactic(auto, using(crate::proofs::PartLists::parts_snoc, guest_kernel::proofs::Reach::readable_end))]
 pub(crate) fn parts_at(
     alloc: Global,
     memory: &GuestMemory,
