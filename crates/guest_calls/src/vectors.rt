@@ -202,7 +202,6 @@ pub(crate) fn note_parts(memory: &GuestMemory, events: &mut Events, tid: Tid, pa
 }
 
 /// readv(2)
-#[tactic(auto, using(guest_kernel::proofs::Room::room_read))]
 pub(crate) fn readv(
     state: &mut State,
     memory: &mut GuestMemory,
