@@ -8,8 +8,8 @@ from collections.abc import Sequence
 
 from aprof_launch.crates import Plan
 
-BYTES_A_SECOND = 2500.0
-"""Of source that one core proves, from which an estimate begins; each crate that is done mends it."""
+BYTES_A_SECOND = 240.0
+"""Of code that one core proves, from which an estimate begins; each crate that is done mends it."""
 
 TRUST_SECONDS = 120.0
 """How long that guess weighs, beside what is measured."""

@@ -1,5 +1,6 @@
 pub mod App
 pub mod Options
 pub mod Plain
+pub mod Private
 pub mod Read
 pub mod Taken

@@ -3,6 +3,7 @@ ghost use Rattle.std.specs.Prelude.{◌≡◌, IfOk, false};
 ghost use Rattle.clap.specs.Words.{App, app_of, rule_of, with_subcommand};
 ghost use Rattle.clap.specs.declared.builder.command.Command.TheViews.{out-Command};
 ghost use Rattle.command_line.specs.App.{the_app, top_app, guest_app, run_app, demo_app, trace_app, cache_app, replay_app, contexts_app, flag_rule, output_rule, required_option, required_rule, value_rule, word_rule};
+ghost use Rattle.command_line.specs.Private.Parts.{options_app};
 
 use clap::{Arg, ArgAction, Command};
 use std::alloc::{AllocError, Global};
@@ -63,16 +64,24 @@ fn further_words<'a>(alloc: Global) -> Arg<'a>
         .num_args(0..)
 }
 
-// A command of this name that runs a guest: how the guest is run, where the result is stored, the image and the further words.
-fn guest_subcommand<'a>(alloc: Global, name: &'a str) -> Result<Command<'a>, AllocError>
-    ensures app { IfOk result (λ c. app_of c ≡ guest_app name.entry.now) }
+// A command of this name, with how a guest is run. It stands apart since a long chain of calls takes long to prove.
+fn with_options<'a>(alloc: Global, name: &'a str) -> Result<Command<'a>, AllocError>
+    ensures app { IfOk result (λ c. app_of c ≡ options_app name.entry.now) }
     ensures local { IfOk result (λ c. (out-Command c).has_globals ≡ false) }
 {
     Command::new(alloc, name)
         .arg(value_option(alloc, "stdin"))?
         .arg(value_option(alloc, "quantum"))?
         .arg(value_option(alloc, "schedule"))?
-        .arg(value_option(alloc, "budget"))?
+        .arg(value_option(alloc, "budget"))
+}
+
+// A command of this name that runs a guest: how the guest is run, where the result is stored, the image and the further words.
+fn guest_subcommand<'a>(alloc: Global, name: &'a str) -> Result<Command<'a>, AllocError>
+    ensures app { IfOk result (λ c. app_of c ≡ guest_app name.entry.now) }
+    ensures local { IfOk result (λ c. (out-Command c).has_globals ≡ false) }
+{
+    with_options(alloc, name)?
         .arg(output_option(alloc))?
         .arg(required_value(alloc, "image"))?
         .arg(further_words(alloc))

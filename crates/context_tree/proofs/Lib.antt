@@ -16,5 +16,6 @@ pub mod Stepping
 pub mod Once
 pub mod Growing
 pub mod AddingUp
+pub mod Beginning
 pub mod SizeBySize
 mod Places

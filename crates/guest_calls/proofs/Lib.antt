@@ -11,6 +11,7 @@ pub mod FileCalls
 pub mod Ends
 pub mod Fits
 pub mod FutexCall
+pub mod FutexTests
 pub mod Lawful
 pub mod Refusals
 pub mod Rows

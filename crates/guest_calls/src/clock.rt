@@ -53,7 +53,6 @@ fn time_bytes(time: u64) -> [u8; TIME_SIZE]
 
 /// The time at an address, each byte of which can be read, in nanoseconds. None where one of its numbers is negative, or the
 /// nanoseconds are a second or more.
-#[tactic(auto, using(guest_kernel::proofs::Reach::reads_within, guest_kernel::proofs::Reach::readable_end))]
 pub(crate) fn time_at(memory: &GuestMemory, at: Addr) -> Option<u64>
     requires reach { can_read (memory_of memory.now) at 16 ≡ true }
     ensures { result ≡ time_at (memory_of memory.now) at }

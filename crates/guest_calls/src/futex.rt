@@ -1,5 +1,5 @@
 //! Waiting at a word and waking: futex(2).
-ghost use Rattle.std.specs.Prelude.{◌≡◌, ◌≢◌, ◌≤◌, ◌==◌, ◌++◌, ◌+◌, ◌&&◌, [], not, slice_index, true, false, is_none, is_some, IfNone, if◌then◌else◌};
+ghost use Rattle.std.specs.Prelude.{◌≡◌, ◌≢◌, ◌≤◌, ◌==◌, ◌++◌, ◌+◌, ◌%◌, ◌&&◌, [], not, slice_index, true, false, is_none, is_some, IfNone, if◌then◌else◌};
 ghost use Rattle.futex_table.specs.Waiting.{woken};
 ghost use Rattle.virtual_clock.specs.Once.{has};
 ghost use Rattle.guest_memory.specs.declared.reservations.Reservations.{Reservations};
@@ -9,7 +9,7 @@ ghost use Rattle.guest_kernel.specs.declared.answer.Answer.TheVariants.{Back, Bl
 ghost use Rattle.guest_calls.specs.declared.operation.Operation.TheVariants.{Requeue, CmpRequeue};
 ghost use Rattle.rv_exec.specs.Accesses.{can_read};
 ghost use Rattle.guest_kernel.specs.Waits.{with_waiter};
-ghost use Rattle.guest_calls.specs.Futex.{futex_tests, has_bitset, is_over, is_wait, limit_end, performed, reads_word, wait_end, waited, wakes_with, with_end};
+ghost use Rattle.guest_calls.specs.Futex.{futex_tests, has_bitset, is_over, is_requeue, is_wait, limit_end, performed, reads_word, wait_end, waited, wakes_with, with_end};
 ghost use Rattle.guest_calls.specs.Clock.{time_at};
 ghost use Rattle.guest_kernel.specs.Errors.{etimedout};
 ghost use Rattle.guest_calls.specs.Futex as specs;
@@ -18,6 +18,7 @@ ghost use Rattle.guest_kernel.specs.Copies.{Adds};
 ghost use Rattle.guest_calls.specs.Outcome.{asked, Does, DoesQuietly};
 ghost use Rattle.guest_kernel.specs.Copies.{read_event};
 ghost use Rattle.guest_calls.specs.Results.{first_answer};
+ghost use Rattle.guest_calls.specs.Results as results;
 
 use crate::caller::Caller;
 use crate::clock::{TIME_SIZE, from_now, time_at};
@@ -53,7 +54,6 @@ fn is_limit_denied(memory: &GuestMemory, caller: &Caller, operation: Operation) 
 }
 
 // Whether it is a wait whose limit, which can be read, is a bad time.
-#[tactic(auto, using(crate::proofs::Passed::asked_reach))]
 fn is_limit_bad(memory: &GuestMemory, caller: &Caller, operation: Operation) -> bool
     requires { ((is_wait operation && not (slice_index caller.now.cpu.regs 13 == 0))
         && not (can_read (memory_of memory.now) (slice_index caller.now.cpu.regs 13) 16)) ≡ false }
@@ -61,6 +61,36 @@ fn is_limit_bad(memory: &GuestMemory, caller: &Caller, operation: Operation) -> 
         && is_none (time_at (memory_of memory.now) (slice_index caller.now.cpu.regs 13))) }
 {
     has_limit(operation, caller) && time_at(memory, caller.argument(3)).is_none()
+}
+
+// Whether the realtime clock is asked for, and it is no wait.
+fn is_clock_unfit(caller: &Caller, operation: Operation) -> bool
+    ensures { result ≡ (results.has (slice_index caller.now.cpu.regs 11) 256 && not (is_wait operation)) }
+{
+    caller.argument(1) & FUTEX_CLOCK_REALTIME != 0 && !operation.is_wait()
+}
+
+// Whether the place to move to is no multiple of 4.
+fn is_target_odd(caller: &Caller, operation: Operation) -> bool
+    ensures { result ≡ (is_requeue operation
+        && not (slice_index caller.now.cpu.regs 14 % 4 == 0)) }
+{
+    operation.is_requeue() && caller.argument(4) % 4 != 0
+}
+
+// Whether there are bits to meet, and these are none.
+fn is_bitset_empty(caller: &Caller, operation: Operation) -> bool
+    ensures { result ≡ (has_bitset operation && slice_index caller.now.cpu.regs 15 == 0) }
+{
+    operation.has_bitset() && caller.argument(5) == 0
+}
+
+// Whether the word is looked at and can't be read.
+fn is_word_denied(memory: &GuestMemory, caller: &Caller, operation: Operation) -> bool
+    ensures { result ≡ (reads_word operation
+        && not (can_read (memory_of memory.now) (slice_index caller.now.cpu.regs 10) 4)) }
+{
+    operation.reads_word() && !memory.can_read(caller.argument(0), 4)
 }
 
 // The answer of the first test that holds.
@@ -75,17 +105,16 @@ fn refusal(memory: &GuestMemory, caller: &Caller, operation: Operation) -> Optio
     ensures limit { IfNone result (is_wait operation ≡ true → slice_index caller.now.cpu.regs 13 ≢ 0
         → can_read (memory_of memory.now) (slice_index caller.now.cpu.regs 13) 16 ≡ true) }
 {
-    let at = caller.argument(0);
-    if caller.argument(1) & FUTEX_CLOCK_REALTIME != 0 && !operation.is_wait() {
+    if is_clock_unfit(caller, operation) {
         return Some(ENOSYS);
     }
-    if at % 4 != 0 {
+    if caller.argument(0) % 4 != 0 {
         return Some(EINVAL);
     }
-    if operation.is_requeue() && caller.argument(4) % 4 != 0 {
+    if is_target_odd(caller, operation) {
         return Some(EINVAL);
     }
-    if operation.has_bitset() && caller.argument(5) == 0 {
+    if is_bitset_empty(caller, operation) {
         return Some(EINVAL);
     }
     if is_limit_denied(memory, caller, operation) {
@@ -94,7 +123,7 @@ fn refusal(memory: &GuestMemory, caller: &Caller, operation: Operation) -> Optio
     if is_limit_bad(memory, caller, operation) {
         return Some(EINVAL);
     }
-    if operation.reads_word() && !memory.can_read(at, 4) {
+    if is_word_denied(memory, caller, operation) {
         return Some(EFAULT);
     }
     None

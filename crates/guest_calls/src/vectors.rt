@@ -48,7 +48,6 @@ fn part_at(memory: &GuestMemory, at: Addr) -> IoVec
 }
 
 /// `count` parts, from an address on.
-#[tactic(auto, using(crate::proofs::PartLists::parts_snoc, guest_kernel::proofs::Reach::readable_end))]
 pub(crate) fn parts_at(
     alloc: Global,
     memory: &GuestMemory,
@@ -203,7 +202,6 @@ pub(crate) fn note_parts(memory: &GuestMemory, events: &mut Events, tid: Tid, pa
 }
 
 /// readv(2)
-#[tactic(auto, using(guest_kernel::proofs::Room::room_read))]
 pub(crate) fn readv(
     state: &mut State,
     memory: &mut GuestMemory,

@@ -49,7 +49,6 @@ pub(crate) fn write(
 }
 
 /// writev(2)
-#[tactic(auto, using(guest_kernel::proofs::Room::room_read, guest_kernel::proofs::Room::adds_more))]
 pub(crate) fn writev(
     kernel: &mut Kernel,
     memory: &GuestMemory,

@@ -1,9 +1,9 @@
 -- The least and the greatest of lists, block by block.
-use Rattle.std.proofs.Common.{◌≡◌, ℕ, ◌+◌, List, [], ◌∷◌, length, map, take, drop, min, max, arith, refl, ap, sym, ◌∙◌}
+use Rattle.std.proofs.Common.{◌≡◌, ℕ, ◌+◌, ◌<◌, get_or, List, [], ◌∷◌, length, map, take, drop, min, max, arith, refl, ap, sym, ◌∙◌}
 use Rattle.std.specs.List.{fold}
 use Rattle.std.proofs.Common.{ap₂, Some, slice_get}
 use Rattle.std.proofs.Math.Seq.{take-add}
-use Rattle.std.proofs.lemmas.List.{take-append-drop}
+use Rattle.std.proofs.lemmas.List.{map_more, take-append-drop}
 use Rattle.std.proofs.lemmas.List.Sums.{fold-append}
 use Rattle.std.proofs.Common.{cond, nat_lt}
 use Rattle.std.proofs.lemmas.Bool.Decides.{nat_tests}
@@ -40,6 +40,12 @@ min_pull (x ∷ xs) a b = let turn : min (min a b) x ≡ min (min a x) b = omega
 max_pull : (xs : List ℕ) (a b : ℕ) → fold max (max a b) xs ≡ max (fold max a xs) b
 max_pull [] a b = refl
 max_pull (x ∷ xs) a b = let turn : max (max a b) x ≡ max (max a x) b = omega arith in ap (λ k. fold max k xs) turn ∙ max_pull xs (max a x) b
+
+-- a fold of one element more
+pub fold_one_more : {X : Type 0} (f : ℕ → ℕ → ℕ) (g : X → ℕ) (xs : List X) (k : ℕ) (x : X) (a before now : ℕ) → k < length xs → x ≡ get_or xs k x → before ≡ fold f a (map g (take k xs)) → now ≡ f before (g x)
+    → now ≡ fold f a (map g (take (k + 1) xs))
+fold_one_more f g xs k x a before now within item is made =
+    made ∙ (ap₂ f is (ap g item) ∙ (sym (fold-append f a (map g (take k xs)) (g (get_or xs k x) ∷ [])) ∙ ap (fold f a) (sym (map_more g xs k x within))))
 
 -- the least of two blocks, lane by lane, has the least of both
 pub min_lanes : (xs ys : List ℕ) (a : ℕ) → length xs ≡ length ys → fold min a (zip2 min xs ys) ≡ fold min (fold min a xs) ys

@@ -5,6 +5,28 @@ ghost use Rattle.stamp_lanes.specs.Plain.{extremes};
 use crate::block::Block;
 use stamps::Stamp;
 
+// The lesser of two stamps.
+fn lesser<S: Stamp>(one: S, other: S) -> S
+    ensures { S.number_of result ≡ min (S.number_of one) (S.number_of other) }
+{
+    if other.number() < one.number() {
+        other
+    } else {
+        one
+    }
+}
+
+// The greater of two stamps.
+fn greater<S: Stamp>(one: S, other: S) -> S
+    ensures { S.number_of result ≡ max (S.number_of one) (S.number_of other) }
+{
+    if one.number() < other.number() {
+        other
+    } else {
+        one
+    }
+}
+
 // The least and the greatest of these stamps and two more.
 fn scalar_extremes<S: Stamp>(stamps: &[S], least: S, greatest: S) -> (S, S)
     ensures least { S.number_of result.0 ≡ fold min (S.number_of least)
@@ -15,12 +37,8 @@ fn scalar_extremes<S: Stamp>(stamps: &[S], least: S, greatest: S) -> (S, S)
     let mut low = least;
     let mut high = greatest;
     for stamp in stamps {
-        if stamp.number() < low.number() {
-            low = *stamp;
-        }
-        if high.number() < stamp.number() {
-            high = *stamp;
-        }
+        low = lesser(low, *stamp);
+        high = greater(high, *stamp);
     }
     (low, high)
 }

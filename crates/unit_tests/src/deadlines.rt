@@ -45,15 +45,13 @@ fn the_least_time_and_then_the_least_thread_is_due(rt: HostRuntime) -> Result<()
 }
 
 #[test]
-fn a_deadline_is_forgotten(rt: HostRuntime) -> Result<(), Fail> {
-    let mut deadlines = Deadlines::new(rt.alloc())?;
-    let one = Tid::new(1).ok_or("no thread")?;
-    let two = Tid::new(2).ok_or("no thread")?;
+fn a_deadline_is_forgotten(rt: HostRuntime) {
+    let (one, two) = (Tid::FIRST, Tid::new(2).expect(&rt, "a thread"));
+    let mut deadlines = Deadlines::new(rt.alloc()).expect(&rt, "memory");
     set(&mut deadlines, 1, 5, 6);
     assert!(rt; deadlines.has(one) && !deadlines.has(two));
     deadlines.forget(two);
     assert_eq!(rt; deadlines.earliest(), Some(5));
     deadlines.forget(one);
     assert_eq!(rt; deadlines.earliest(), None);
-    Ok(())
 }

@@ -44,28 +44,29 @@ fn a_sink_may_drop_all(rt: HostRuntime) -> Result<(), Fail> {
 }
 
 #[test]
-fn files_of_the_system_keep_what_is_stored(rt: HostRuntime) -> Result<(), Fail> {
-    let alloc = rt.alloc();
+fn files_of_the_system_keep_what_is_stored(rt: HostRuntime) {
     let mut files = RealFiles::new(&rt);
-    files.store("kept", b"longer than seven")?;
-    files.store("kept", b"seven")?;
-    assert_eq!(rt;
-        files.load(alloc, "kept", 5)?.as_slice(),
-        b"seven".as_slice()
-    );
-    assert_eq!(rt;
-        files.load(alloc, "kept", 4).err(),
-        Some(LoadError::TooLarge)
-    );
-    assert_eq!(rt;
-        files.load(alloc, "missing", 4).err(),
-        Some(LoadError::Failed)
-    );
+    assert_eq!(rt; files.store("kept", b"longer than seven"), Ok(()));
+    assert_eq!(rt; files.store("kept", b"seven"), Ok(()));
+    let kept = files.load(rt.alloc(), "kept", 5).expect(&rt, "a file");
+    assert_eq!(rt; kept.as_slice(), b"seven".as_slice());
+}
+
+#[test]
+fn files_of_the_system_refuse(rt: HostRuntime) {
+    let mut files = RealFiles::new(&rt);
+    assert_eq!(rt; files.store("kept", b"seven"), Ok(()));
+    for (path, error) in [
+        ("kept", LoadError::TooLarge),
+        ("missing", LoadError::Failed),
+    ] {
+        let refused = files.load(rt.alloc(), path, 4).err();
+        assert_eq!(rt; refused, Some(error), "{path}");
+    }
     assert_eq!(rt;
         files.store("missing/kept", b"seven"),
         Err(StoreError::Failed)
     );
-    Ok(())
 }
 
 // Gives a byte, is interrupted, gives a byte, and fails from then on.

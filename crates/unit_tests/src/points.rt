@@ -4,8 +4,8 @@ ghost use Rattle.trace_model.specs.Profile.{HasParts};
 
 use cost_points::{Point, Split, Table};
 use guest_words::{Addr, Tid};
+use std::alloc::Global;
 use std::process::Abort;
-use std::test::Fail;
 use trace_model::Done;
 
 const NOTHING: Split = Split {
@@ -32,22 +32,35 @@ fn ended(entry: Addr, size: u64, cost: u64) -> Done
     }
 }
 
-fn add(rt: &impl Abort, table: &mut Table, ended: Done) -> Result<(), Fail>
+fn add(rt: &impl Abort, table: &mut Table, ended: Done)
     requires { HasParts ended }
 {
     assert!(rt; table.members() < 9_223_372_036_854_775_808);
-    table.add(ended)?;
-    Ok(())
+    table.add(ended).expect(rt, "memory");
+}
+
+// The routine at the place has this entry and these points.
+fn assert_routine(
+    rt: &impl Abort,
+    alloc: Global,
+    table: &Table,
+    place: usize,
+    entry: Addr,
+    points: &[Point],
+) {
+    assert!(rt; place < table.routines());
+    let (found, list) = table.routine(alloc, place).expect(rt, "memory");
+    assert_eq!(rt; (found, list.as_slice()), (entry, points));
 }
 
 // A routine that calls itself to a depth of 83, each call eight instructions dearer than the one inside it, and its caller.
 #[test]
-fn the_calls_of_a_deep_recursion_are_one_point(rt: HostRuntime) -> Result<(), Fail> {
-    let mut table = Table::new(rt.alloc())?;
+fn the_calls_of_a_deep_recursion_are_one_point(rt: HostRuntime) {
+    let mut table = Table::new(rt.alloc()).expect(&rt, "memory");
     for depth in 0..83 {
-        add(&rt, &mut table, ended(0x10068, 0, 7 + 8 * depth))?;
+        add(&rt, &mut table, ended(0x10068, 0, 7 + 8 * depth));
     }
-    add(&rt, &mut table, ended(0x10054, 0, 668))?;
+    add(&rt, &mut table, ended(0x10054, 0, 668));
     assert_eq!(rt; table.members(), 84);
     assert_eq!(rt; table.routines(), 2);
     let whole = Point {
@@ -58,8 +71,7 @@ fn the_calls_of_a_deep_recursion_are_one_point(rt: HostRuntime) -> Result<(), Fa
         sum: 668,
         split: Some(NOTHING),
     };
-    let (entry, points) = table.routine(rt.alloc(), 0)?;
-    assert_eq!(rt; (entry, points.as_slice()), (0x10054, [whole].as_slice()));
+    assert_routine(&rt, rt.alloc(), &table, 0, 0x10054, &[whole]);
     let deep = Point {
         size: 0,
         calls: 83,
@@ -68,16 +80,14 @@ fn the_calls_of_a_deep_recursion_are_one_point(rt: HostRuntime) -> Result<(), Fa
         sum: 27805,
         split: Some(NOTHING),
     };
-    let (entry, points) = table.routine(rt.alloc(), 1)?;
-    assert_eq!(rt; (entry, points.as_slice()), (0x10068, [deep].as_slice()));
-    Ok(())
+    assert_routine(&rt, rt.alloc(), &table, 1, 0x10068, &[deep]);
 }
 
 // Of three activations of size 2 one reads two words first, one a word first and one that another thread wrote last, and one
 // two words that the kernel filled last, of which it had accessed one before.
 #[test]
-fn points_are_by_size(rt: HostRuntime) -> Result<(), Fail> {
-    let mut table = Table::new(rt.alloc())?;
+fn points_are_by_size(rt: HostRuntime) {
+    let mut table = Table::new(rt.alloc()).expect(&rt, "memory");
     let threaded = Done {
         plain: 1,
         thread: 1,
@@ -92,10 +102,10 @@ fn points_are_by_size(rt: HostRuntime) -> Result<(), Fail> {
         bare: 1,
         ..ended(0x10068, 2, 9)
     };
-    add(&rt, &mut table, ended(0x10068, 2, 7))?;
-    add(&rt, &mut table, ended(0x10068, 0, 5))?;
-    add(&rt, &mut table, threaded)?;
-    add(&rt, &mut table, filled)?;
+    add(&rt, &mut table, ended(0x10068, 2, 7));
+    add(&rt, &mut table, ended(0x10068, 0, 5));
+    add(&rt, &mut table, threaded);
+    add(&rt, &mut table, filled);
     assert_eq!(rt; table.routines(), 1);
     let small = Point {
         size: 0,
@@ -118,20 +128,15 @@ fn points_are_by_size(rt: HostRuntime) -> Result<(), Fail> {
             bare: 4,
         }),
     };
-    let (entry, points) = table.routine(rt.alloc(), 0)?;
-    assert_eq!(rt;
-        (entry, points.as_slice()),
-        (0x10068, [small, large].as_slice())
-    );
-    Ok(())
+    assert_routine(&rt, rt.alloc(), &table, 0, 0x10068, &[small, large]);
 }
 
 // A point of two activations of size 2, of which one read two words that the kernel had filled, joins that of one which reads
 // two words first.
 #[test]
-fn a_point_joins_another(rt: HostRuntime) -> Result<(), Fail> {
-    let mut table = Table::new(rt.alloc())?;
-    add(&rt, &mut table, ended(0x10068, 2, 7))?;
+fn a_point_joins_another(rt: HostRuntime) {
+    let mut table = Table::new(rt.alloc()).expect(&rt, "memory");
+    add(&rt, &mut table, ended(0x10068, 2, 7));
     let more = Point {
         size: 2,
         calls: 2,
@@ -146,7 +151,7 @@ fn a_point_joins_another(rt: HostRuntime) -> Result<(), Fail> {
         }),
     };
     assert_eq!(rt; table.members(), 1);
-    table.add_point(0x10068, &more)?;
+    table.add_point(0x10068, &more).expect(&rt, "memory");
     assert_eq!(rt; table.routines(), 1);
     let whole = Point {
         size: 2,
@@ -161,7 +166,5 @@ fn a_point_joins_another(rt: HostRuntime) -> Result<(), Fail> {
             bare: 4,
         }),
     };
-    let (entry, points) = table.routine(rt.alloc(), 0)?;
-    assert_eq!(rt; (entry, points.as_slice()), (0x10068, [whole].as_slice()));
-    Ok(())
+    assert_routine(&rt, rt.alloc(), &table, 0, 0x10068, &[whole]);
 }
