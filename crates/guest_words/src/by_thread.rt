@@ -73,9 +73,10 @@ impl<T> ByThread<T> {
     pub fn get(&self, tid: Tid) -> Option<&T>
         ensures { option_copied result ≡ value_of self.now.list tid }
     {
-        match self.entries.first() {
-            Some(entry) if entry.0 == tid => Some(&entry.1),
-            _ => self.search(tid),
+        if self.is_first(tid) {
+            Some(&self.entries[0].1)
+        } else {
+            self.search(tid)
         }
     }
 
