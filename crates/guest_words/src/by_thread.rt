@@ -1,5 +1,5 @@
 //! Values of threads, by their numbers.
-ghost use Rattle.std.specs.Prelude.{◌≡◌, ◌==◌, ◌≤◌, ◌+◌, ◌<◌, ◌++◌, ◌∷◌, [], Some, true, length, All, IsOk, OnOk, OnErr};
+ghost use Rattle.std.specs.Prelude.{◌≡◌, ◌==◌, ◌≤◌, ◌+◌, ◌<◌, ◌++◌, ◌∷◌, [], Some, true, length, All, IsOk, OnOk, OnErr, is_some};
 ghost use Rattle.std.specs.Borrow.{sem};
 ghost use Rattle.std.specs.List.{position};
 ghost use Rattle.std.specs.Option.{option_copied, option_copied_mut};
@@ -73,9 +73,23 @@ impl<T> ByThread<T> {
     pub fn get(&self, tid: Tid) -> Option<&T>
         ensures { option_copied result ≡ value_of self.now.list tid }
     {
-        match self.entries.first() {
-            Some(entry) if entry.0 == tid => Some(&entry.1),
-            _ => self.search(tid),
+        if self.is_first(tid) {
+            Some(&self.entries[0].1)
+        } else {
+            self.search(tid)
+        }
+    }
+
+    /// The value of a thread that has one.
+    #[inline(always)]
+    pub fn value(&self, tid: Tid) -> &T
+        requires { is_some (value_of self.now.list tid) ≡ true }
+        ensures { value_of self.now.list tid ≡ Some result.now }
+    {
+        if self.entries[0].0 == tid {
+            &self.entries[0].1
+        } else {
+            self.search(tid).unwrap()
         }
     }
 

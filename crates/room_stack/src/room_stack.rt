@@ -98,8 +98,9 @@ impl<T: Copy> RoomStack<T> {
         ensures lowered { self.old.spare ≤ self.new.spare + 1 }
     {
         if self.depth == self.items.len() {
-            let first = item; // so that the item itself need not be in memory
-            push_behind(&mut self.items, first)?;
+            push_behind(&mut self.items, item)?;
+            self.depth += 1;
+            return Ok(());
         }
         self.items[self.depth] = item;
         self.depth += 1;

@@ -12,7 +12,7 @@ use Rattle.stamp_lanes.specs.Plain.{Place, is_by_kernel, is_by_thread, is_foreig
 use Rattle.shadow_stack.specs.Frames.{Frame, plus, starts_of}
 use Rattle.shadow_pages.specs.Pages.{in_range, stamp_at}
 use Rattle.call_tracker.specs.ThreadCalls.{Calls}
-use Rattle.stamp_renumber.specs.Threads.{frames_of, pages_of}
+use Rattle.stamp_renumber.specs.Threads.{Live, calls_of, frames_of, pages_of, stamped}
 use Rattle.stamp_table.specs.Frames.{added_to_top, frames_after_read, gain, negated, taken_at}
 use Rattle.shadow_core.specs.Profiling.{StandsFor}
 use Rattle.shadow_core.specs.Private.Reading.{IsChanged, IsRead, places_at}
@@ -37,7 +37,7 @@ at_the_top p limit (f ∷ frames) falling le =
     ∙ (λ i. record f { sums = same i } ∷ frames)
 
 -- No one wrote the word since.
-not_foreign : (p : Place) → p.write ≤ p.own → is_foreign p ≡ false
+pub not_foreign : (p : Place) → p.write ≤ p.own → is_foreign p ≡ false
 not_foreign p le = grind (arith, nat_tests, le)
 
 none_by_thread : (p : Place) → p.write ≤ p.own → 0 ≡ count_by is_by_thread (p ∷ [])
@@ -110,6 +110,30 @@ read_again most t w count s now heavier is may one own weighed =
       stamps = same_stamps (stamp_at (pages_of s.live.threads t)) w s.counter own;
       covered = λ v. refl;
     }
+
+-- A read of a word that no one else wrote since the thread's access.
+pub read_by_own : (most t w : ℕ) (s now : State) (read : Live) (stamp heavier : ℕ) → s ≡ now → MayTake (StandsFor most) now (Read t w 1) →
+    IsRead s.live read t (stamp_at s.writes) (stamp_at s.marks) w 1 stamp → stamp ≡ s.counter →
+    stamp_at s.writes w ≤ stamp_at (pages_of s.live.threads t) w → heavier ≡ s.weight + 2 →
+    table_of_state (record s { live = read; weight = heavier }) ≡ table_after (bounded_tick most) (Read t w 1) (table_of_state now)
+read_by_own most t w s now read stamp heavier is may made counter low weighed =
+    ap (λ n. table_of_state (record s { live = read; weight = n })) weighed
+    ∙ read_made most t w 1 0 0 s read read m.was m.has (subst (λ (n : ℕ). IsRead s.live read t (stamp_at s.writes) (stamp_at s.marks) w 1 n) counter made) threads kernels
+    (stamped read.threads t (frames_of read.threads t) (pages_of read.threads t)) made.changed.threads refl refl
+    (made.changed.calls ∙ sym (found_none (calls_of s.live.threads t)))
+    ∙ ap (λ (k : State). table_after (bounded_tick most) (Read t w 1) (table_of_state k)) is
+  where
+    m : MayRead s t w 1
+    m = may_read most t w 1 s (subst (λ (k : State). MayTake (StandsFor most) k (Read t w 1)) (sym is) may)
+
+    p : Place
+    p = record { own = stamp_at (pages_of s.live.threads t) w; write = stamp_at s.writes w; mark = stamp_at s.marks w }
+
+    threads : 0 ≡ count_by is_by_thread (places_at (stamp_at (pages_of s.live.threads t)) (stamp_at s.writes) (stamp_at s.marks) (range_with_len w 1))
+    threads = none_by_thread p low
+
+    kernels : 0 ≡ count_by is_by_kernel (places_at (stamp_at (pages_of s.live.threads t)) (stamp_at s.writes) (stamp_at s.marks) (range_with_len w 1))
+    kernels = none_by_kernel p low
 
 pub write_again : (most t w count : ℕ) (s now : State) (heavier : ℕ) → s ≡ now → MayTake (StandsFor most) now (Write t w count) → count ≡ 1 →
     stamp_at (pages_of s.live.threads t) w ≡ s.counter → stamp_at s.writes w ≡ s.counter → stamp_at s.marks w ≡ 0 → heavier ≡ s.weight + 1 →

@@ -24,9 +24,9 @@ use crate::ApplyError;
 use crate::advance::advance;
 use crate::cover::{add_with_room, cover, cover_own};
 use crate::endings::{end_calls, record_of};
-use crate::reads::{Access, access_of, read, read_at};
+use crate::reads::{Access, access_of, read, read_at, read_kept};
 use crate::rows::ZeroRows;
-use crate::writes::{fill, is_written, write};
+use crate::writes::{Latest, fill, is_latest, latest_of, write, write_at};
 use guest_words::{Addr, Tid, Word};
 use shadow_pages::Shadow;
 use stamp_lanes::Lanes;
@@ -248,23 +248,66 @@ impl<S: Lanes> Profiler<S> {
         ensures pages { AreCovered (pages_of self.old.live.threads tid) first count
             → AreCovered self.old.writes first count → HasSamePages self.old self.new }
     {
-        if count == 1
-            && is_written(
-                &self.threads,
-                tid,
-                &self.writes,
-                &self.marks,
-                first,
-                self.counter,
-            )
-        {
-            self.weight += 1;
-            return Ok(());
+        if count == 1 {
+            if let Some(access) = access_of(&self.threads, tid, first) {
+                if let Some(latest) = latest_of(&self.writes, &self.marks, first) {
+                    self.write_known(tid, first, access, latest);
+                    return Ok(());
+                }
+            }
         }
         self.write_anew(tid, first, count)
     }
 
-    // The same, where a stamp may change.
+    // A write of one word whose pages are there. Where the thread wrote the word last, since the counter last moved, it changes no
+    // stamp and no mark.
+    #[inline(always)]
+    fn write_known(&mut self, tid: Tid, w: Word, access: Access<S>, latest: Latest<S>)
+        requires may { MayTake (StandsFor S.MAX) self.old (Write tid w 1) }
+        requires place { HasPlace (pages_of self.old.live.threads tid) w access.place }
+        requires own { S.number_of access.stamp ≡ stamp_at (pages_of self.old.live.threads tid) w }
+        requires written { HasPlace self.old.writes w latest.place }
+        requires marked { HasPlace self.old.marks w latest.place }
+        requires stamp { S.number_of latest.stamp ≡ stamp_at self.old.writes w }
+        requires mark { latest.mark ≡ stamp_at self.old.marks w }
+        ensures table { table_of_state self.new
+            ≡ table_after (bounded_tick S.MAX) (Write tid w 1) (table_of_state self.old) }
+        ensures pages { HasSamePages self.old self.new }
+    {
+        if access.stamp.number() == self.counter && is_latest(latest, self.counter) {
+            self.weight += 1;
+        } else {
+            self.write_old(tid, w, access, latest);
+        }
+    }
+
+    // The same, where a stamp or the mark may change.
+    #[inline(never)]
+    fn write_old(&mut self, tid: Tid, w: Word, access: Access<S>, latest: Latest<S>)
+        requires may { MayTake (StandsFor S.MAX) self.old (Write tid w 1) }
+        requires place { HasPlace (pages_of self.old.live.threads tid) w access.place }
+        requires written { HasPlace self.old.writes w latest.place }
+        requires marked { HasPlace self.old.marks w latest.place }
+        ensures table { table_of_state self.new
+            ≡ table_after (bounded_tick S.MAX) (Write tid w 1) (table_of_state self.old) }
+        ensures pages { HasSamePages self.old self.new }
+    {
+        let now = S::from_number(self.counter);
+        write_at(
+            &mut self.threads,
+            tid,
+            access.place,
+            &mut self.writes,
+            &mut self.marks,
+            latest,
+            w,
+            now,
+        );
+        self.weight += 1;
+    }
+
+    // A write of several words, or of one whose pages may not be there.
+    #[cold]
     #[inline(never)]
     fn write_anew(&mut self, tid: Tid, first: Word, count: u32) -> Result<(), AllocError>
         requires { MayTake (StandsFor S.MAX) self.old (Write tid first count) }
@@ -530,6 +573,40 @@ impl<S: Lanes> Profiler<S> {
             ≡ table_after (bounded_tick S.MAX) (Read tid w 1) (table_of_state self.old) }
         ensures pages { HasSamePages self.old self.new }
     {
+        if access.stamp.number() < self.writes.get(w).number() {
+            self.read_foreign(tid, w, access);
+        } else {
+            self.read_own(tid, w, access);
+        }
+    }
+
+    // The same, where no one else wrote the word since the thread's access.
+    #[inline(always)]
+    fn read_own(&mut self, tid: Tid, w: Word, access: Access<S>)
+        requires may { MayTake (StandsFor S.MAX) self.old (Read tid w 1) }
+        requires place { HasPlace (pages_of self.old.live.threads tid) w access.place }
+        requires own { S.number_of access.stamp ≡ stamp_at (pages_of self.old.live.threads tid) w }
+        requires kept { stamp_at self.old.writes w ≤ stamp_at (pages_of self.old.live.threads tid) w }
+        ensures table { table_of_state self.new
+            ≡ table_after (bounded_tick S.MAX) (Read tid w 1) (table_of_state self.old) }
+        ensures pages { HasSamePages self.old self.new }
+    {
+        self.weight += 2;
+        let now = S::from_number(self.counter);
+        read_kept(&mut self.threads, tid, w, access, now);
+    }
+
+    // The same, where another thread or the kernel may have written the word since.
+    #[cold]
+    #[inline(never)]
+    fn read_foreign(&mut self, tid: Tid, w: Word, access: Access<S>)
+        requires may { MayTake (StandsFor S.MAX) self.old (Read tid w 1) }
+        requires place { HasPlace (pages_of self.old.live.threads tid) w access.place }
+        requires own { S.number_of access.stamp ≡ stamp_at (pages_of self.old.live.threads tid) w }
+        ensures table { table_of_state self.new
+            ≡ table_after (bounded_tick S.MAX) (Read tid w 1) (table_of_state self.old) }
+        ensures pages { HasSamePages self.old self.new }
+    {
         let now = S::from_number(self.counter);
         let found = read_at(
             &mut self.threads,
@@ -581,7 +658,7 @@ impl<S: Lanes> Profiler<S> {
         requires { 3 * length (all_starts self.now.live.threads) + 3 ≤ S.MAX }
         ensures { result ≡ nat_lt S.MAX (3 * (length (all_starts self.now.live.threads) + 2)) }
     {
-        u64::from(S::MAX) < 3 * (self.threads.frame_count() as u64 + 2)
+        u64::from(S::MAX / 3) < self.threads.frame_count() as u64 + 2
     }
 
     /// Whether the event begins an activation too many, so that `apply` would refuse it.

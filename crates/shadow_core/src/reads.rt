@@ -46,7 +46,7 @@ fn below_zero(by: Sums) -> Sums
 #[derive(Clone, Copy)]
 pub(crate) struct Access<S: Stamp> {
     // the place of its page
-    place: usize,
+    pub(crate) place: usize,
     pub(crate) stamp: S,
 }
 
@@ -99,6 +99,22 @@ fn read_word<S: Lanes>(threads: &mut Threads<S>, tid: Tid, w: Word, writes: &Sha
 {
     let access = access_of(threads, tid, w).unwrap();
     read_stamped(threads, tid, w, access, writes.get(w), stamp);
+}
+
+/// A read of one word that no one else wrote since the thread's access, by that access.
+#[inline(always)]
+pub(crate) fn read_kept<S: Lanes>(threads: &mut Threads<S>, tid: Tid, w: Word, access: Access<S>, stamp: S)
+    requires lives { is_some (value_of threads.old.threads tid) ≡ true }
+    requires some { 1 ≤ length (frames_of threads.old.threads tid) }
+    requires place { HasPlace (pages_of threads.old.threads tid) w access.place }
+    requires sums { AreWithin (2 ^ 62 + 2 ^ 31) (frames_of threads.old.threads tid) }
+    requires own { S.number_of access.stamp ≡ stamp_at (pages_of threads.old.threads tid) w }
+    ensures { (writes marks : ℕ → ℕ) → writes w ≤ S.number_of access.stamp
+        → IsRead threads.old threads.new tid writes marks w 1 (S.number_of stamp) }
+{
+    let Access { place, stamp: own } = access;
+    let by = Sums { plain: 1, bare: 1 };
+    threads.read_word(tid, place, w, own, by, below_zero(by), stamp);
 }
 
 // The word `i` places on.
@@ -336,15 +352,6 @@ fn read_one<S: Lanes>(
 {
     let access = access_of(threads, tid, w).unwrap();
     read_at(threads, tid, w, access, writes, marks, stamp)
-}
-
-/// Whether the thread has accessed the word since the counter last moved.
-#[inline(always)]
-pub(crate) fn is_fresh<S: Lanes>(threads: &Threads<S>, tid: Tid, w: Word, counter: u32) -> bool
-    requires lives { is_some (value_of threads.now.threads tid) ≡ true }
-    ensures { result ≡ true → stamp_at (pages_of threads.now.threads tid) w ≡ counter }
-{
-    threads.shadow(tid).get(w).number() == counter
 }
 
 // How many of the words that are left lie in the page of the next one.

@@ -1,12 +1,11 @@
 //! What writes of words change in the stamps.
-ghost use Rattle.std.specs.Prelude.{◌≡◌, ◌≤◌, ◌+◌, ◌^◌, is_some, true};
+ghost use Rattle.std.specs.Prelude.{◌≡◌, ◌≤◌, ◌+◌, ◌^◌, IfSome, is_some, true};
 ghost use Rattle.guest_words.specs.ByThread.{value_of};
 ghost use Rattle.shadow_pages.specs.Pages.{AreCovered, HasPlace, covers, stamp_at};
 ghost use Rattle.stamp_renumber.specs.Threads.{frames_of, pages_of};
 ghost use Rattle.shadow_core.specs.Private.Reading.{IsChanged};
 ghost use Rattle.shadow_core.specs.Private.Writing.{IsFilled};
 
-use crate::reads::is_fresh;
 use guest_words::{Tid, Word};
 use shadow_pages::Shadow;
 use stamp_lanes::Lanes;
@@ -54,6 +53,73 @@ pub(crate) fn fill<S: Lanes>(
     stamp_words(marks, first, count, 1);
 }
 
+/// Where the latest write of a word is kept, its stamp and its mark.
+#[derive(Clone, Copy)]
+pub(crate) struct Latest<S: Stamp> {
+    // the place of its page, and of that of its mark
+    place: usize,
+    stamp: S,
+    mark: u8,
+}
+
+/// The latest write of a word, where both pages have one place. They do, but where a page was refused.
+#[inline(always)]
+pub(crate) fn latest_of<S: Stamp>(
+    writes: &Shadow<S>,
+    marks: &Shadow<u8>,
+    w: Word,
+) -> Option<Latest<S>>
+    ensures written { IfSome result (λ l. HasPlace writes.now.pages w l.place) }
+    ensures marked { IfSome result (λ l. HasPlace marks.now.pages w l.place) }
+    ensures stamp { IfSome result (λ l. S.number_of l.stamp ≡ stamp_at writes.now.pages w) }
+    ensures mark { IfSome result (λ l. l.mark ≡ stamp_at marks.now.pages w) }
+{
+    let place = writes.find(w)?;
+    if !marks.has_at(place, w) {
+        return None;
+    }
+    let stamp = writes.get_at(place, w);
+    let mark = marks.get_at(place, w);
+    Some(Latest { place, stamp, mark })
+}
+
+/// Whether a thread wrote the word last, since the counter last moved.
+#[inline(always)]
+pub(crate) fn is_latest<S: Stamp>(latest: Latest<S>, counter: u32) -> bool
+    ensures stamp { result ≡ true → S.number_of latest.stamp ≡ counter }
+    ensures mark { result ≡ true → latest.mark ≡ 0 }
+{
+    latest.stamp.number() == counter && latest.mark == 0
+}
+
+/// A write of one word, by the places of its pages.
+#[inline(always)]
+pub(crate) fn write_at<S: Lanes>(
+    threads: &mut Threads<S>,
+    tid: Tid,
+    own_place: usize,
+    writes: &mut Shadow<S>,
+    marks: &mut Shadow<u8>,
+    latest: Latest<S>,
+    w: Word,
+    stamp: S,
+)
+    requires lives { is_some (value_of threads.old.threads tid) ≡ true }
+    requires own { HasPlace (pages_of threads.old.threads tid) w own_place }
+    requires written { HasPlace writes.old.pages w latest.place }
+    requires marked { HasPlace marks.old.pages w latest.place }
+    ensures changed { IsChanged threads.old threads.new tid (frames_of threads.old.threads tid)
+        (pages_of threads.new.threads tid) }
+    ensures access { IsFilled (S.number_of stamp) w 1 (pages_of threads.old.threads tid)
+        (pages_of threads.new.threads tid) }
+    ensures writes { IsFilled (S.number_of stamp) w 1 writes.old.pages writes.new.pages }
+    ensures marks { IsFilled 0 w 1 marks.old.pages marks.new.pages }
+{
+    stamp_word(threads.shadow_mut(tid), own_place, w, stamp);
+    stamp_word(writes, latest.place, w, stamp);
+    stamp_word(marks, latest.place, w, 0);
+}
+
 // A write of one word. Each page is looked up once.
 #[inline(always)]
 fn write_one<S: Lanes>(
@@ -81,24 +147,6 @@ fn write_one<S: Lanes>(
     stamp_word(threads.shadow_mut(tid), own_place, w, stamp);
     stamp_word(writes, write_place, w, stamp);
     stamp_word(marks, mark_place, w, 0);
-}
-
-/// Whether the thread wrote the word last, since the counter last moved. Then a write of it changes no stamp and no mark.
-#[inline(always)]
-pub(crate) fn is_written<S: Lanes>(
-    threads: &Threads<S>,
-    tid: Tid,
-    writes: &Shadow<S>,
-    marks: &Shadow<u8>,
-    w: Word,
-    counter: u32,
-) -> bool
-    requires lives { is_some (value_of threads.now.threads tid) ≡ true }
-    ensures access { result ≡ true → stamp_at (pages_of threads.now.threads tid) w ≡ counter }
-    ensures write { result ≡ true → stamp_at writes.now.pages w ≡ counter }
-    ensures mark { result ≡ true → stamp_at marks.now.pages w ≡ 0 }
-{
-    is_fresh(threads, tid, w, counter) && writes.get(w).number() == counter && marks.get(w) == 0
 }
 
 /// A write of words by the thread: each gets the stamp, as that of the thread's access and as that of its latest write, and

@@ -118,6 +118,17 @@ impl<S: Stamp> Shadow<S> {
         self.directory.place(w.number() >> 10)
     }
 
+    /// Whether the page at the place, if there is one, has the word.
+    #[inline(always)]
+    pub fn has_at(&self, place: usize, w: Word) -> bool
+        ensures { result ≡ true → HasPlace self.now.pages w place }
+    {
+        match self.pages.get(place) {
+            Some(page) => page.number == w.number() >> 10,
+            None => false,
+        }
+    }
+
     /// The place of the page that has the covered word.
     #[inline(always)]
     pub fn place(&self, w: Word) -> usize

@@ -1,5 +1,5 @@
 //! The frames and their search.
-ghost use Rattle.std.specs.Prelude.{◌≡◌, ◌≤◌, ◌<◌, ◌+◌, ◌-◌, ◌*◌, ◌^◌, ◌++◌, ◌∷◌, [], ℕ, length, map, All, IfSome, IsOk, Some, OnOk, OnErr, nat_lt, slice_get, slice_index};
+ghost use Rattle.std.specs.Prelude.{◌≡◌, ◌≤◌, ◌<◌, ◌+◌, ◌-◌, ◌*◌, ◌^◌, ◌++◌, ◌∷◌, [], ℕ, length, map, All, IfSome, IsOk, Some, OnOk, OnErr, nat_lt, true, slice_get, slice_index};
 ghost use Rattle.std.specs.Option.{option_map_or};
 ghost use Rattle.shadow_stack.specs.Frames.{FitsPop, FitsSums, IsLastAtMost, IsMoved, IsPopped, IsRising, added, new_frame, plus, restarted, starts_of};
 
@@ -124,19 +124,15 @@ impl<S: Stamp> Frames<S> {
         }
     }
 
-    // The place of the innermost frame that started at or before the stamp. The innermost of all, at `top`, started after it; most
-    // often the frame below is the one, so that is tried before a search.
+    // Whether the frame below the innermost of all, which is at `top` and started after the stamp, is the innermost that started at
+    // or before the stamp.
     #[inline(always)]
-    fn place_below(&self, top: usize, stamp: S) -> Option<usize>
+    fn is_below(&self, top: usize, stamp: S) -> bool
         requires top { length self.now.list ≡ top + 1 }
         requires above { S.number_of stamp < slice_index (starts_of self.now.list) top }
-        ensures { IsLastAtMost (starts_of self.now.list) (S.number_of stamp) result }
+        ensures { result ≡ true → IsLastAtMost (starts_of self.now.list) (S.number_of stamp) (Some (top - 1)) }
     {
-        if top > 0 && self.start_at(top - 1).number() <= stamp.number() {
-            Some(top - 1)
-        } else {
-            last_at_most(self, stamp)
-        }
+        top > 0 && self.start_at(top - 1).number() <= stamp.number()
     }
 
     /// Where the innermost frame started after the stamp, adds `by` to its sums, and `back` to those of the innermost frame that
@@ -151,10 +147,43 @@ impl<S: Stamp> Frames<S> {
     {
         let top = self.depth() - 1;
         if stamp.number() < self.start_at(top).number() {
-            let place = self.place_below(top, stamp);
-            self.add_if(place, back);
-            self.add(top, by);
+            if self.is_below(top, stamp) {
+                self.move_from(Some(top - 1), top, stamp, by, back);
+            } else {
+                self.move_far(top, stamp, by, back);
+            }
         }
+    }
+
+    // The same from the frame at the place, if there is one, where the innermost of all, at `top`, started after the stamp.
+    #[inline(always)]
+    fn move_from(&mut self, place: Option<usize>, top: usize, stamp: S, by: Sums, back: Sums)
+        requires top { length self.old.list ≡ top + 1 }
+        requires above { S.number_of stamp < slice_index (starts_of self.old.list) top }
+        requires place { IsLastAtMost (starts_of self.old.list) (S.number_of stamp) place }
+        requires fits { (i : ℕ) → IfSome (slice_get self.old.list i) (λ f. FitsSums (plus f.sums by)) }
+        requires fits_back { (i : ℕ) → IfSome (slice_get self.old.list i) (λ f. FitsSums (plus f.sums back)) }
+        ensures moved { IsMoved (S.number_of stamp) by back self.old.list self.new.list }
+        ensures kept { self.old.spare ≤ self.new.spare }
+    {
+        let _ = stamp;
+        self.add_if(place, back);
+        self.add(top, by);
+    }
+
+    // The same, where the frame is to be searched. Most often it is the one below, so this stands apart.
+    #[cold]
+    #[inline(never)]
+    fn move_far(&mut self, top: usize, stamp: S, by: Sums, back: Sums)
+        requires top { length self.old.list ≡ top + 1 }
+        requires above { S.number_of stamp < slice_index (starts_of self.old.list) top }
+        requires fits { (i : ℕ) → IfSome (slice_get self.old.list i) (λ f. FitsSums (plus f.sums by)) }
+        requires fits_back { (i : ℕ) → IfSome (slice_get self.old.list i) (λ f. FitsSums (plus f.sums back)) }
+        ensures moved { IsMoved (S.number_of stamp) by back self.old.list self.new.list }
+        ensures kept { self.old.spare ≤ self.new.spare }
+    {
+        let place = last_at_most(self, stamp);
+        self.move_from(place, top, stamp, by, back);
     }
 
     /// Takes the innermost frame, and hands its sums down: they are added to the frame below, if there is one.

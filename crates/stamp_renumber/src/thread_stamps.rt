@@ -184,8 +184,8 @@ impl<S: Stamp> ThreadStamps<S> {
         requires fits_back { (i : ℕ) → IfSome (slice_get self.old.frames i) (λ f. FitsSums (plus f.sums back)) }
         ensures { IsWordRead w (S.number_of own) by back (S.number_of stamp) self.old self.new }
     {
-        self.frames.move_to_top(own, by, back);
         self.shadow.set_at(place, w, stamp);
+        self.frames.move_to_top(own, by, back);
     }
 
     /// Takes the innermost frame and the innermost call. There is one of both.

@@ -133,7 +133,7 @@ impl<S: Lanes> Threads<S> {
         ensures value { result ≡ has_room self.now tid }
         ensures room { result ≡ true → HasRoom self.now tid }
     {
-        self.marks > 0 && self.threads.get(tid).unwrap().has_room()
+        self.marks > 0 && self.threads.value(tid).has_room()
     }
 
     /// Makes the room for one more frame of the thread, for its mark and for its call.
@@ -312,7 +312,7 @@ impl<S: Lanes> Threads<S> {
           spare = spare_of self.now.threads tid;
         } }
     {
-        self.threads.get(tid).unwrap().frames()
+        self.threads.value(tid).frames()
     }
 
     /// The stamps of the thread's accesses.
@@ -321,7 +321,7 @@ impl<S: Lanes> Threads<S> {
         requires { is_some (value_of self.now.threads tid) ≡ true }
         ensures { result.now ≡ record { pages = pages_of self.now.threads tid } }
     {
-        self.threads.get(tid).unwrap().shadow()
+        self.threads.value(tid).shadow()
     }
 
     /// The stamps of the thread's accesses, for writing.

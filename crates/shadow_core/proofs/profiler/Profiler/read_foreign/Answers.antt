@@ -9,7 +9,7 @@ use Rattle.shadow_core.proofs.Profiled.{advance_here, alive_here, lives_here}
 use Rattle.shadow_core.proofs.ReadEvents.{found_fits, found_lives, may_read_there, read_whole}
 use Rattle.shadow_core.proofs.Reading.{lives_changed, not_changed, within_more}
 use Rattle.shadow_core.proofs.SamePages.{calls_alike, changed_alike, seen_same}
-use Rattle.shadow_core.proofs.profiler.Profiler.read_old.Goals as goal
+use Rattle.shadow_core.proofs.profiler.Profiler.read_foreign.Goals as goal
 
 pub from_number-now-requires : goal.from_number-now-requires
 from_number-now-requires g c = (advance_here g.S.Stamp.MAX (Read c.args.tid c.args.w 1) _ _ c.self.view_is c.requires.may).within
