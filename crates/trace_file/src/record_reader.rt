@@ -414,11 +414,11 @@ pub fn read_record(alloc: Global, bytes: &[u8], known: usize) -> Result<Record, 
 }
 
 /// How many bytes a record has.
-pub fn record_size(record: &Record) -> usize
-    requires { Fits record.now }
-    ensures { result ≡ length (record_bytes record.now) }
+pub fn record_size(next: &Record) -> usize
+    requires { Fits next.now }
+    ensures { result ≡ length (record_bytes next.now) }
 {
-    match record {
+    match next {
         Record::OfEvent(e) => event_size(e),
         Record::OfName(_, name) => NAME_AT + name.bytes().len(),
         Record::OfFinish(f) => finish_size(f),
