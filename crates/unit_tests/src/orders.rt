@@ -20,33 +20,30 @@ fn each_event_is_taken_in_its_order(rt: HostRuntime) -> Result<(), Fail> {
     let (first, second) = (Tid::FIRST, Tid::new(2).expect(&rt, "a thread"));
     let third = Tid::new(3).expect(&rt, "a thread");
     let (word, last) = (Word::of(64), Word::of(u32::MAX));
+    let (step, start) = (
+        Event::Step { tid: first },
+        Event::Start {
+            tid: first,
+            entry: 16,
+        },
+    );
+    let write = Event::Write {
+        tid: first,
+        first: word,
+        count: 1,
+    };
+    let other_write = Event::Write {
+        tid: third,
+        first: word,
+        count: 1,
+    };
     let mut order = Order::new(rt.alloc())?;
     for (e, may) in [
-        (Event::Step { tid: first }, false),
-        (
-            Event::Start {
-                tid: first,
-                entry: 16,
-            },
-            true,
-        ),
-        (
-            Event::Write {
-                tid: first,
-                first: word,
-                count: 1,
-            },
-            false,
-        ),
-        (Event::Step { tid: first }, true),
-        (
-            Event::Write {
-                tid: first,
-                first: word,
-                count: 1,
-            },
-            true,
-        ),
+        (step, false),
+        (start, true),
+        (write, false),
+        (step, true),
+        (write, true),
         (
             Event::Write {
                 tid: first,
@@ -92,33 +89,12 @@ fn each_event_is_taken_in_its_order(rt: HostRuntime) -> Result<(), Fail> {
             },
             false,
         ),
-        (
-            Event::Write {
-                tid: third,
-                first: word,
-                count: 1,
-            },
-            false,
-        ),
+        (other_write, false),
         (Event::Step { tid: third }, true),
-        (
-            Event::Write {
-                tid: third,
-                first: word,
-                count: 1,
-            },
-            true,
-        ),
-        (
-            Event::Write {
-                tid: first,
-                first: word,
-                count: 1,
-            },
-            false,
-        ),
+        (other_write, true),
+        (write, false),
         (Event::End { tid: first }, true),
-        (Event::Step { tid: first }, false),
+        (step, false),
         (Event::End { tid: first }, false),
         (
             Event::Ret {
@@ -128,14 +104,7 @@ fn each_event_is_taken_in_its_order(rt: HostRuntime) -> Result<(), Fail> {
             true,
         ),
         (Event::End { tid: third }, true),
-        (
-            Event::Write {
-                tid: third,
-                first: word,
-                count: 1,
-            },
-            false,
-        ),
+        (other_write, false),
     ] {
         assert_eq!(rt; offer(&mut order, e)?, may, "{e:?}");
     }
