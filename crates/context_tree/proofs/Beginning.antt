@@ -1,5 +1,5 @@
 -- A context that begins: its place, its points and its links, by whether there is one number more.
-use Rattle.std.proofs.Common.{◌≡◌, ℕ, ◌+◌, ◌<◌, ◌≤◌, Bool, true, false, cond, List, [], ◌∷◌, ◌++◌, length, refl, ap, arith, length-append}
+use Rattle.std.proofs.Common.{◌≡◌, ℕ, ◌<◌, ◌≤◌, Bool, true, false, cond, List, [], ◌∷◌, ◌++◌, length, refl, ap, arith, length-append}
 use Rattle.std.specs.List.{list_any}
 use Rattle.cost_points.specs.declared.point.Point.{Point}
 use Rattle.context_tree.specs.Contexts.{same, with_context}

@@ -1,14 +1,9 @@
 -- A call goes by its number to its row of the table.
-use Rattle.std.proofs.Common.{◌≡◌, ◌≢◌, ℕ, Bool, cond, List, [], ◌∷◌, ◌++◌, append-nil, refl, ap, sym, ◌∙◌}
+use Rattle.std.proofs.Common.{◌≡◌, ◌≢◌, ℕ, Bool, cond, List, [], ◌∷◌, refl, ap, sym, ◌∙◌}
 use Rattle.std.proofs.lemmas.Bool.{ne_eqb}
-use Rattle.trace_model.specs.EventList.{EventList}
 use Rattle.guest_kernel.specs.Errors.{enosys}
 use Rattle.guest_calls.specs.Results.{Syscall, SyscallResult, number, returns}
 use Rattle.guest_calls.specs.Table.{always, syscall, syscall_numbered, table}
-
-pub call_is : (c : Syscall) → syscall c ≡ syscall_numbered (number c) table c
-unfolding syscall
-call_is c = refl
 
 pub called : (c : Syscall) (n : ℕ) → number c ≡ n → syscall c ≡ syscall_numbered n table c
 unfolding syscall
@@ -26,7 +21,3 @@ passed_over n (row ∷ rows) others =
 
 pub unknown : (c : Syscall) (n : ℕ) → number c ≡ n → AreOther n table → syscall c ≡ returns c enosys
 unknown c n is others = called c n is ∙ ap (λ (what : Syscall → SyscallResult). what c) (passed_over n table others)
-
--- a call without events adds none
-pub none_added : (e : EventList) → e.list ++ [] ≡ e.list
-none_added e = append-nil e.list

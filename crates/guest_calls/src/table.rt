@@ -37,7 +37,6 @@ fn always(value: u32) -> Answer
 }
 
 /// Carries out a call that writes to no channel.
-#[tactic(auto, using(crate::proofs::Rows::call_is, crate::proofs::Rows::none_added), unfolding(crate::specs::Table::table))]
 pub(crate) fn syscall(
     state: &mut State,
     memory: &mut GuestMemory,

@@ -14,43 +14,87 @@ fn offer(order: &mut Order, e: Event) -> Result<bool, AllocError> {
     Ok(may)
 }
 
-// A write of words from the word of a byte address on.
-fn write(tid: Tid, at: u32, count: u32) -> Event {
-    Event::Write {
-        tid,
-        first: Word::of(at),
-        count,
-    }
-}
-
-fn start(tid: Tid) -> Event {
-    Event::Start { tid, entry: 16 }
-}
-
 // Events are offered one after the other; with each stands whether it may come after those that were taken.
 #[test]
 fn each_event_is_taken_in_its_order(rt: HostRuntime) -> Result<(), Fail> {
     let (first, second) = (Tid::FIRST, Tid::new(2).expect(&rt, "a thread"));
     let third = Tid::new(3).expect(&rt, "a thread");
+    let (word, last) = (Word::of(64), Word::of(u32::MAX));
+    let (step, start) = (
+        Event::Step { tid: first },
+        Event::Start {
+            tid: first,
+            entry: 16,
+        },
+    );
+    let write = Event::Write {
+        tid: first,
+        first: word,
+        count: 1,
+    };
+    let other_write = Event::Write {
+        tid: third,
+        first: word,
+        count: 1,
+    };
     let mut order = Order::new(rt.alloc())?;
     for (e, may) in [
-        (Event::Step { tid: first }, false),
-        (start(first), true),
-        (write(first, 64, 1), false),
-        (Event::Step { tid: first }, true),
-        (write(first, 64, 1), true),
-        (write(first, 64, 0), false),
-        (write(first, u32::MAX, 1), true),
-        (write(first, u32::MAX, 2), false),
-        (start(third), true),
-        (start(second), false),
-        (start(third), false),
-        (write(third, 64, 1), false),
+        (step, false),
+        (start, true),
+        (write, false),
+        (step, true),
+        (write, true),
+        (
+            Event::Write {
+                tid: first,
+                first: word,
+                count: 0,
+            },
+            false,
+        ),
+        (
+            Event::Write {
+                tid: first,
+                first: last,
+                count: 1,
+            },
+            true,
+        ),
+        (
+            Event::Write {
+                tid: first,
+                first: last,
+                count: 2,
+            },
+            false,
+        ),
+        (
+            Event::Start {
+                tid: third,
+                entry: 16,
+            },
+            true,
+        ),
+        (
+            Event::Start {
+                tid: second,
+                entry: 16,
+            },
+            false,
+        ),
+        (
+            Event::Start {
+                tid: third,
+                entry: 16,
+            },
+            false,
+        ),
+        (other_write, false),
         (Event::Step { tid: third }, true),
-        (write(third, 64, 1), true),
-        (write(first, 64, 1), false),
+        (other_write, true),
+        (write, false),
         (Event::End { tid: first }, true),
-        (Event::Step { tid: first }, false),
+        (step, false),
         (Event::End { tid: first }, false),
         (
             Event::Ret {
@@ -60,7 +104,7 @@ fn each_event_is_taken_in_its_order(rt: HostRuntime) -> Result<(), Fail> {
             true,
         ),
         (Event::End { tid: third }, true),
-        (write(third, 64, 1), false),
+        (other_write, false),
     ] {
         assert_eq!(rt; offer(&mut order, e)?, may, "{e:?}");
     }

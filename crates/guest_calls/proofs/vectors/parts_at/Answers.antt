@@ -1,4 +1,4 @@
-use Rattle.std.proofs.Common.{rules, ◌≤◌, ◌+◌, ◌*◌, ◌^◌, ◌++◌, ◌∷◌, [], List, arith, ap₂, sym, ◌∙◌}
+use Rattle.std.proofs.Common.{rules, ◌*◌, ◌++◌, ◌∷◌, [], List, arith, ap₂, sym, ◌∙◌}
 use Rattle.guest_memory.specs.Guest.{memory_of}
 use Rattle.guest_kernel.specs.declared.parts.IoVec.{IoVec}
 use Rattle.guest_kernel.proofs.Reach.{readable_end, reads_within}

@@ -3,6 +3,7 @@ use Rattle.guest_words.specs.ByThread.{numbers}
 use Rattle.context_tree.specs.Contexts.{contexts}
 use Rattle.context_tree.specs.Numbers.{IsBeyond}
 use Rattle.context_tree.specs.Branches.{KeptBranches, BranchesStandFor}
+use Rattle.std.proofs.lemmas.Bool.{true≢false}
 use Rattle.context_tree.proofs.Following.{ok_of, own-start, stands-start}
 use Rattle.context_tree.proofs.branches.Branches.start.Goals as goal
 
@@ -18,7 +19,7 @@ returns-in_err-reserve-clause-always_too_many c = λ past stands beyond.
     let above = subst (λ (k : KeptBranches). All (λ n. n < c.args.tid) (numbers k.threads)) (sym c.self.view_is) c.requires.above in
     let yes = c.is_beyond.ensures.no (contexts past) s.contexts_are (subst (IsBeyond (contexts past)) (own-start _ past c.args.tid c.args.entry above s) beyond) in
     let no = c.if-is_beyond.false in
-    absurd (cc)
+    absurd (true≢false (sym yes ∙ no))
 
 pub returns-in_err-number-clause-always_too_many : goal.returns-in_err-number-clause-always_too_many
 returns-in_err-number-clause-always_too_many c = λ past stands beyond.
@@ -26,7 +27,7 @@ returns-in_err-number-clause-always_too_many c = λ past stands beyond.
     let above = subst (λ (k : KeptBranches). All (λ n. n < c.args.tid) (numbers k.threads)) (sym c.self.view_is) c.requires.above in
     let yes = c.is_beyond.ensures.no (contexts past) s.contexts_are (subst (IsBeyond (contexts past)) (own-start _ past c.args.tid c.args.entry above s) beyond) in
     let no = c.if-is_beyond.false in
-    absurd (cc)
+    absurd (true≢false (sym yes ∙ no))
 
 pub returns-clause-always_too_many : goal.returns-clause-always_too_many
 returns-clause-always_too_many c = λ past stands beyond.
@@ -34,7 +35,7 @@ returns-clause-always_too_many c = λ past stands beyond.
     let above = subst (λ (k : KeptBranches). All (λ n. n < c.args.tid) (numbers k.threads)) (sym c.self.view_is) c.requires.above in
     let yes = c.is_beyond.ensures.no (contexts past) s.contexts_are (subst (IsBeyond (contexts past)) (own-start _ past c.args.tid c.args.entry above s) beyond) in
     let no = c.if-is_beyond.false in
-    absurd (cc)
+    absurd (true≢false (sym yes ∙ no))
 
 pub returns-clause-stands : goal.returns-clause-stands
 returns-clause-stands c = λ past stands.
