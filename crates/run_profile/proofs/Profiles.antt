@@ -167,6 +167,11 @@ module _ (most : ℕ) {K : Type 0} (Holds : K → List Event → List Done → T
       steps_are = p.steps_are;
     }
 
+-- An event that ends nothing, whatever list it was taken with.
+pub quiet : {most : ℕ} {e : Event} {past : List Event} {new : State} {before after last : List Done} → IsTaken most e past new before after →
+    ended e past ≡ [] → last ≡ [] → IsTaken most e past new [] last
+quiet taken none is = record { stands = taken.stands; fits = taken.fits; recorded = is ∙ sym none }
+
 -- ---- Steps in a row.
 steps_more : (tid n : ℕ) (past : List Event) → steps (with_steps tid n past) ≡ steps past + n
 steps_more tid zero past = omega arith

@@ -103,7 +103,13 @@ fn read_word<S: Lanes>(threads: &mut Threads<S>, tid: Tid, w: Word, writes: &Sha
 
 /// A read of one word that no one else wrote since the thread's access, by that access.
 #[inline(always)]
-pub(crate) fn read_kept<S: Lanes>(threads: &mut Threads<S>, tid: Tid, w: Word, access: Access<S>, stamp: S)
+pub(crate) fn read_kept<S: Lanes>(
+    threads: &mut Threads<S>,
+    tid: Tid,
+    w: Word,
+    access: Access<S>,
+    stamp: S,
+)
     requires lives { is_some (value_of threads.old.threads tid) ≡ true }
     requires some { 1 ≤ length (frames_of threads.old.threads tid) }
     requires place { HasPlace (pages_of threads.old.threads tid) w access.place }
