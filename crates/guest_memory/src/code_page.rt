@@ -44,29 +44,29 @@ fn known(i: Instr) -> Option<Instr>
     }
 }
 
-/// The instruction of a word of the page that begins at `first`, by the word's place in it, where it is known: a page of code lends
-/// both its first address and its instructions.
+/// What stands for a word in the code of the page that begins at `first`, by the word's place in it: its instruction, or EBREAK
+/// where none is known. A page of code lends both its first address and its instructions.
 #[inline(always)]
-pub fn find_word(first: Addr, instructions: &[Instr], word: u32) -> Option<Instr>
+pub fn find_word(first: Addr, instructions: &[Instr], word: usize) -> Option<Instr>
     requires first { first % 4096 ≡ 0 }
     requires whole { length instructions.now ≡ 1024 }
     ensures { (m : Memory) → IsCodeFrom m first instructions.now
-        → IfSome result (IsInstructionAt m ((first + 4 * word) % 2 ^ 32)) }
+        → IfSome result (λ i. IfSome (known_of i) (IsInstructionAt m ((first + 4 * word) % 2 ^ 32))) }
 {
-    if word as usize >= PAGE_WORDS {
+    if word >= PAGE_WORDS {
         return None;
     }
-    known(instructions[word as usize])
+    Some(instructions[word])
 }
 
 // How many words an address lies behind the begin of a page, modulo 2 ^ 30.
 #[inline(always)]
-fn words_behind(first: Addr, at: Addr) -> u32
+fn words_behind(first: Addr, at: Addr) -> usize
     requires even { at % 4 ≡ 0 }
     requires first { first % 4096 ≡ 0 }
     ensures { (first + 4 * result) % 2 ^ 32 ≡ at }
 {
-    at.wrapping_sub(first) >> 2
+    (at.wrapping_sub(first) >> 2) as usize
 }
 
 impl CodePage {
@@ -107,7 +107,7 @@ impl CodePage {
         ensures { (m : Memory) → IsCodeOf m self.now → IfSome result (IsInstructionAt m at) }
     {
         let (first, instructions) = self.parts();
-        find_word(first, instructions, words_behind(first, at))
+        known(find_word(first, instructions, words_behind(first, at))?)
     }
 
     /// Caches the instruction of a word, where it can be known.

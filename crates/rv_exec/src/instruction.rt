@@ -6,7 +6,8 @@ ghost use Rattle.guest_memory.specs.Reserved.{HoldAtMost, without_thread};
 ghost use Rattle.guest_memory.specs.ReservedBy.{reserved_by};
 ghost use Rattle.rv_exec.specs.Effects.{branched, computed, effect, exec_state_of, jumped, linked, value};
 ghost use Rattle.rv_exec.specs.declared.outcome.Access.TheVariants as access;
-ghost use Rattle.rv_exec.specs.declared.outcome.Outcome.TheVariants.{Went};
+ghost use Rattle.rv_exec.specs.declared.outcome.Outcome.TheVariants.{Fault, Went};
+ghost use Rattle.guest_words.specs.declared.endings.FaultKind.TheVariants as fault;
 ghost use Rattle.rv_exec.specs.Operations.{is_taken, add_offset};
 ghost use Rattle.rv_exec.specs.Reading.{CarriesOut, is_plain, may_write};
 ghost use Rattle.rv_exec.specs.Registers.{Registers, with_pc};
@@ -130,12 +131,14 @@ pub fn execute_reading<P: Counter>(
 }
 
 /// Carries out an instruction that accesses no memory and links no way back, of a thread whose program counter is `pc`, and says
-/// whether it did. If it is another one or faults, nothing changes.
+/// whether it did: not if it is another one, or a branch that faults. Then nothing changes.
 #[inline(always)]
 pub fn execute_plain<P: Counter>(pc: &mut P, cpu: &mut Cpu, i: Instr) -> bool
     ensures plain { result ≡ true → is_plain i ≡ true }
     ensures made { result ≡ true → (m : Memory) → CarriesOut i m (with_pc (P.at pc.old) cpu.old)
         (Went access.Nothing) (with_pc (P.at pc.new) cpu.new) }
+    ensures faults { result ≡ false → is_plain i ≡ true → (m : Memory)
+        → CarriesOut i m (with_pc (P.at pc.old) cpu.old) (Fault fault.JumpAlign) (with_pc (P.at pc.old) cpu.old) }
     ensures kept { result ≡ false → with_pc (P.at pc.new) cpu.new ≡ with_pc (P.at pc.old) cpu.old }
 {
     match i {

@@ -15,7 +15,7 @@ returns c = λ m code.
     let place : at / 4 % 1024 ≡ word = omega (arith, low, c.requires.first, c.ranges.first) in
     let even : at % 4 ≡ 0 = omega (arith, c.requires.first) in
     let inside : word < length instructions = omega (arith, low, c.requires.whole) in
-    let is : c.known.result ≡ get_or (map known_of instructions) (at / 4 % 1024) None =
-    c.known.ensures ∙ ap known_of c.index-instructions-word.is ∙ sym (get_or-map known_of instructions word i None inside)
+    let is : known_of i ≡ get_or (map known_of instructions) (at / 4 % 1024) None =
+    ap known_of c.index-instructions-word.is ∙ sym (get_or-map known_of instructions word i None inside)
     ∙ ap (λ n. get_or (map known_of instructions) n None) (sym place) in
     subst (λ (o : Option Instr). IfSome o (IsInstructionAt m at)) (sym is) (code at even page)
