@@ -15,5 +15,6 @@ pub mod AllWoken
 pub mod Ranges
 pub mod Handed
 pub mod Carried
+pub mod PlainSteps
 pub mod RowOfSteps
 pub mod MadeSteps

@@ -13,7 +13,7 @@ use crate::Advanced;
 use crate::telling::told;
 use guest_memory::{GuestMemory, Reservations};
 use guest_words::{Addr, Tid};
-use rv_exec::{Cpu, Outcome, execute, execute_reading};
+use rv_exec::{Counter, Cpu, Cursor, Outcome, execute, execute_reading};
 use rv_isa::Instr;
 use std::alloc::AllocError;
 
@@ -91,7 +91,7 @@ pub(crate) enum Reading {
 // fault; else nothing changes.
 #[inline(always)]
 pub(crate) fn carry_out_reading(
-    pc: &mut Addr,
+    pc: &mut Cursor,
     cpu: &mut Cpu,
     memory: &GuestMemory,
     instruction: &Instr,
@@ -101,10 +101,10 @@ pub(crate) fn carry_out_reading(
         → IsReadingOf (exec_state_of (with_pc pc.old cpu.old) memory.now held)
         (exec_state_of (with_pc pc.new cpu.new) memory.now held) tid result }
 {
-    let at = *pc;
+    let at = pc.address();
     match execute_reading(pc, cpu, memory, *instruction) {
         Some(Outcome::Went { access }) => Reading::Went {
-            advanced: told(instruction, access, *pc, at.wrapping_add(4)),
+            advanced: told(instruction, access, pc.address(), at.wrapping_add(4)),
         },
         Some(Outcome::Fault { .. }) => Reading::Stops,
         Some(Outcome::Syscall) => Reading::Stops,

@@ -12,7 +12,7 @@ ghost use Rattle.guest_machine.specs.Private.Making.{Makes, MakesLoad, MakesStor
 
 use guest_memory::{GuestMemory, Reservations};
 use guest_words::{Addr, Tid};
-use rv_exec::{Cpu, add_offset, load_words, store_words};
+use rv_exec::{Counter, Cpu, Cursor, add_offset, load_words, store_words};
 use rv_isa::{LoadKind, Reg, StoreKind};
 use std::alloc::AllocError;
 use trace_model::{Event, Observed, Observer};
@@ -139,12 +139,12 @@ fn load_any_and_tell<W: Observer>(
 
 // The program counter goes on behind an instruction that went.
 #[inline(always)]
-fn go_behind(pc: &mut Addr, made: &Result<Made, AllocError>)
+fn go_behind(pc: &mut Cursor, made: &Result<Made, AllocError>)
     ensures { pc.new ≡ behind pc.old made.now }
 {
     match *made {
         Ok(Made::Stops) => {}
-        Ok(Made::Taken) | Ok(Made::Refused) | Err(_) => *pc = pc.wrapping_add(4),
+        Ok(Made::Taken) | Ok(Made::Refused) | Err(_) => pc.pass(),
     }
 }
 
@@ -152,7 +152,7 @@ fn go_behind(pc: &mut Addr, made: &Result<Made, AllocError>)
 /// all.
 #[inline(always)]
 pub(crate) fn make_load<W: Observer>(
-    pc: &mut Addr,
+    pc: &mut Cursor,
     cpu: &mut Cpu,
     memory: &GuestMemory,
     tid: Tid,

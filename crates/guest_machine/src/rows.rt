@@ -17,9 +17,9 @@ use crate::Advanced;
 use crate::known::{Reading, carry_out, carry_out_next, carry_out_reading};
 use crate::making::{Made, make_load, make_store};
 use crate::telling::observe_told;
-use guest_memory::{GuestMemory, Reservations, find_in};
+use guest_memory::{GuestMemory, Reservations, find_word};
 use guest_words::{Addr, Tid};
-use rv_exec::Cpu;
+use rv_exec::{Counter, Cpu, Cursor, execute_plain};
 use rv_isa::Instr;
 use std::alloc::AllocError;
 use trace_model::{Observed, Observer};
@@ -134,7 +134,7 @@ fn count_made(row: &mut StepRow, made: Result<Made, AllocError>) -> Result<Furth
 // from its registers, so that the compiler keeps it in a register.
 #[inline(always)]
 fn run_page<W: Observer>(
-    pc: &mut Addr,
+    pc: &mut Cursor,
     cpu: &mut Cpu,
     memory: &GuestMemory,
     held: &Reservations,
@@ -159,10 +159,33 @@ fn run_page<W: Observer>(
     ensures same { W.fits observer.new ≡ W.fits observer.old }
 {
     'steps: while row.plain < row.left {
-        let Some(instruction) = find_in(first, code, *pc) else {
+        let Some(word) = pc.word_from(first) else {
             return Ok(Paused::Elsewhere);
         };
+        let Some(instruction) = find_word(first, code, word) else {
+            return Ok(Paused::Elsewhere);
+        };
+        if execute_plain(pc, cpu, instruction) {
+            row.plain += 1;
+            continue;
+        }
         match instruction {
+            Instr::Store {
+                kind,
+                value,
+                base,
+                offset,
+            } => {
+                // made of its parts, so that the compiler keeps these alone in the loop
+                let instruction = Instr::Store {
+                    kind,
+                    value,
+                    base,
+                    offset,
+                };
+                return Ok(Paused::MayWrite { instruction });
+            }
+            Instr::Ebreak => return Ok(Paused::Elsewhere),
             Instr::Load {
                 kind,
                 rd,
@@ -189,7 +212,7 @@ fn run_page<W: Observer>(
                         Err(e) => return Err(e),
                     },
                 },
-                Reading::MayWrite => return Ok(Paused::MayWrite { instruction }),
+                Reading::MayWrite => return Ok(Paused::Elsewhere),
                 Reading::Stops => return Ok(Paused::Stops),
             },
         }
@@ -223,9 +246,9 @@ fn run_page_at<W: Observer>(
         return Ok(Paused::Elsewhere);
     };
     let (first, code) = page.parts();
-    let mut pc = cpu.pc;
+    let mut pc = Cursor::new(first, cpu.pc);
     let answer = run_page(&mut pc, cpu, memory, held, tid, first, code, row, observer);
-    cpu.pc = pc;
+    cpu.pc = pc.address();
     answer
 }
 

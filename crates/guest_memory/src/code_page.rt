@@ -1,11 +1,10 @@
 //! The code of one page of the guest, decoded.
-ghost use Rattle.std.specs.Prelude.{◌≡◌, ◌<◌, ◌≤◌, ◌%◌, ◌*◌, ◌^◌, ℕ, List, Option, None, Some, length, map, replicate, slice_set, IfOk, IfSome};
+ghost use Rattle.std.specs.Prelude.{◌≡◌, ◌<◌, ◌≤◌, ◌+◌, ◌%◌, ◌*◌, ◌^◌, ℕ, List, Option, None, Some, length, map, replicate, slice_set, IfOk, IfSome};
 ghost use Rattle.guest_memory.specs.Code.{IsCodeFrom, IsCodeOf, IsInstructionAt, known_of};
 ghost use Rattle.guest_memory.specs.Memory.{Memory};
 ghost use Rattle.guest_memory.specs.Private.CodePages.{AreForgotten};
 ghost use Rattle.rv_isa.specs.declared.instruction.Instr.{Instr};
 
-use crate::directory::PAGE_SIZE;
 use guest_words::Addr;
 use rv_isa::Instr;
 use std::alloc::{AllocError, Global};
@@ -45,20 +44,29 @@ fn known(i: Instr) -> Option<Instr>
     }
 }
 
-/// The instruction at an address, where it lies in the page that begins at `first`, and is known: a page of code lends both its
-/// first address and its instructions.
+/// What stands for a word in the code of the page that begins at `first`, by the word's place in it: its instruction, or EBREAK
+/// where none is known. A page of code lends both its first address and its instructions.
 #[inline(always)]
-pub fn find_in(first: Addr, instructions: &[Instr], at: Addr) -> Option<Instr>
-    requires even { at % 4 ≡ 0 }
+pub fn find_word(first: Addr, instructions: &[Instr], word: usize) -> Option<Instr>
     requires first { first % 4096 ≡ 0 }
     requires whole { length instructions.now ≡ 1024 }
-    ensures { (m : Memory) → IsCodeFrom m first instructions.now → IfSome result (IsInstructionAt m at) }
+    ensures { (m : Memory) → IsCodeFrom m first instructions.now
+        → IfSome result (λ i. IfSome (known_of i) (IsInstructionAt m ((first + 4 * word) % 2 ^ 32))) }
 {
-    let offset = at.wrapping_sub(first);
-    if offset as usize >= PAGE_SIZE {
+    if word >= PAGE_WORDS {
         return None;
     }
-    known(instructions[(offset >> 2) as usize])
+    Some(instructions[word])
+}
+
+// How many words an address lies behind the begin of a page, modulo 2 ^ 30.
+#[inline(always)]
+fn words_behind(first: Addr, at: Addr) -> usize
+    requires even { at % 4 ≡ 0 }
+    requires first { first % 4096 ≡ 0 }
+    ensures { (first + 4 * result) % 2 ^ 32 ≡ at }
+{
+    (at.wrapping_sub(first) >> 2) as usize
 }
 
 impl CodePage {
@@ -99,7 +107,7 @@ impl CodePage {
         ensures { (m : Memory) → IsCodeOf m self.now → IfSome result (IsInstructionAt m at) }
     {
         let (first, instructions) = self.parts();
-        find_in(first, instructions, at)
+        known(find_word(first, instructions, words_behind(first, at))?)
     }
 
     /// Caches the instruction of a word, where it can be known.

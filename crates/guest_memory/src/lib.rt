@@ -15,7 +15,7 @@ mod refusal;
 mod reservations;
 mod size;
 
-pub use code_page::{CodePage, find_in};
+pub use code_page::{CodePage, find_word};
 pub use memory::GuestMemory;
 pub use refusal::MemError;
 pub use reservations::Reservations;

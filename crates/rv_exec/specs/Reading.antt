@@ -1,7 +1,7 @@
 -- The instructions that can't write to memory, and what it means that one of them was carried out.
 use Rattle.std.specs.Prelude.{◌≡◌, ℕ, Bool, true, false}
 use Rattle.rv_isa.specs.declared.instruction.Instr.{Instr}
-use Rattle.rv_isa.specs.declared.instruction.Instr.TheVariants.{Store, Atomic}
+use Rattle.rv_isa.specs.declared.instruction.Instr.TheVariants.{Lui, Auipc, Branch, Store, Immediate, Register, Atomic, Fence, FenceI}
 use Rattle.guest_memory.specs.Memory.{Memory}
 use Rattle.guest_memory.specs.Reserved.{Reserved}
 use Rattle.rv_exec.specs.Registers.{Registers}
@@ -13,6 +13,17 @@ abbrev pub may_write : Instr → Bool
 may_write (Store kind from base offset) = true
 may_write (Atomic op rd base from order) = true
 may_write _ = false
+
+-- whether an instruction accesses no memory, links no way back, and is no call of the kernel or a debugger
+abbrev pub is_plain : Instr → Bool
+is_plain (Lui rd imm) = true
+is_plain (Auipc rd imm) = true
+is_plain (Branch test left right offset) = true
+is_plain (Immediate op rd left imm) = true
+is_plain (Register op rd left right) = true
+is_plain Fence = true
+is_plain FenceI = true
+is_plain _ = false
 
 -- For any thread, whatever is reserved, the instruction has this outcome and leaves these registers; memory and reservations
 -- stay.

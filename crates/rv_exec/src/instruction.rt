@@ -1,19 +1,21 @@
 //! One instruction of a thread.
-ghost use Rattle.std.specs.Prelude.{◌≡◌, ◌+◌, ◌-◌, ◌%◌, ◌^◌, IfSome, IfNone, is_none};
+ghost use Rattle.std.specs.Prelude.{◌≡◌, ◌+◌, ◌-◌, ◌%◌, ◌^◌, true, false, IfSome, IfNone, is_none};
 ghost use Rattle.guest_memory.specs.Guest.{memory_of};
+ghost use Rattle.guest_memory.specs.Memory.{Memory};
 ghost use Rattle.guest_memory.specs.Reserved.{HoldAtMost, without_thread};
 ghost use Rattle.guest_memory.specs.ReservedBy.{reserved_by};
 ghost use Rattle.rv_exec.specs.Effects.{branched, computed, effect, exec_state_of, jumped, linked, value};
 ghost use Rattle.rv_exec.specs.declared.outcome.Access.TheVariants as access;
-ghost use Rattle.rv_exec.specs.declared.outcome.Outcome.TheVariants.{Went};
+ghost use Rattle.rv_exec.specs.declared.outcome.Outcome.TheVariants.{Fault, Went};
+ghost use Rattle.guest_words.specs.declared.endings.FaultKind.TheVariants as fault;
 ghost use Rattle.rv_exec.specs.Operations.{is_taken, add_offset};
-ghost use Rattle.rv_exec.specs.Reading.{CarriesOut, may_write};
+ghost use Rattle.rv_exec.specs.Reading.{CarriesOut, is_plain, may_write};
 ghost use Rattle.rv_exec.specs.Registers.{Registers, with_pc};
 
 use crate::atomics::{Operands, atomic};
 use crate::loads_and_stores::{load, store};
 use crate::operations::{add_offset, immediate_result, is_taken, register_result};
-use crate::{Cpu, Outcome};
+use crate::{Access, Counter, Cpu, Outcome};
 use guest_memory::{GuestMemory, Reservations};
 use guest_words::limits::THREADS;
 use guest_words::{Addr, FaultKind, Tid};
@@ -66,15 +68,15 @@ pub fn execute(
 /// Carries out an instruction that does not write to memory, of a thread whose program counter is `pc`: that in `cpu` is not
 /// looked at, and stays. None, and nothing changes, where the instruction may write.
 #[inline(always)]
-pub fn execute_reading(
-    pc: &mut Addr,
+pub fn execute_reading<P: Counter>(
+    pc: &mut P,
     cpu: &mut Cpu,
     memory: &GuestMemory,
     i: Instr,
 ) -> Option<Outcome>
-    ensures effect { IfSome result (λ outcome. CarriesOut i (memory_of memory.now) (with_pc pc.old cpu.old)
-        outcome (with_pc pc.new cpu.new)) }
-    ensures none { IfNone result (with_pc pc.new cpu.new ≡ with_pc pc.old cpu.old) }
+    ensures effect { IfSome result (λ outcome. CarriesOut i (memory_of memory.now) (with_pc (P.at pc.old) cpu.old)
+        outcome (with_pc (P.at pc.new) cpu.new)) }
+    ensures none { IfNone result (with_pc (P.at pc.new) cpu.new ≡ with_pc (P.at pc.old) cpu.old) }
     ensures writes { is_none result ≡ may_write i }
 {
     match i {
@@ -90,11 +92,11 @@ pub fn execute_reading(
         }
         Instr::Lui { rd, imm } => Some(compute(pc, cpu, rd, imm << 12)),
         Instr::Auipc { rd, imm } => {
-            let n = pc.wrapping_add(imm << 12);
+            let n = pc.address().wrapping_add(imm << 12);
             Some(compute(pc, cpu, rd, n))
         }
         Instr::Jal { rd, offset } => {
-            let target = add_offset(*pc, offset);
+            let target = add_offset(pc.address(), offset);
             Some(jump_and_link(pc, cpu, rd, target))
         }
         Instr::Jalr { rd, base, offset } => {
@@ -128,20 +130,77 @@ pub fn execute_reading(
     }
 }
 
+/// Carries out an instruction that accesses no memory and links no way back, of a thread whose program counter is `pc`, and says
+/// whether it did: not if it is another one, or a branch that faults. Then nothing changes.
+#[inline(always)]
+pub fn execute_plain<P: Counter>(pc: &mut P, cpu: &mut Cpu, i: Instr) -> bool
+    ensures plain { result ≡ true → is_plain i ≡ true }
+    ensures made { result ≡ true → (m : Memory) → CarriesOut i m (with_pc (P.at pc.old) cpu.old)
+        (Went access.Nothing) (with_pc (P.at pc.new) cpu.new) }
+    ensures faults { result ≡ false → is_plain i ≡ true → (m : Memory)
+        → CarriesOut i m (with_pc (P.at pc.old) cpu.old) (Fault fault.JumpAlign) (with_pc (P.at pc.old) cpu.old) }
+    ensures kept { result ≡ false → with_pc (P.at pc.new) cpu.new ≡ with_pc (P.at pc.old) cpu.old }
+{
+    match i {
+        Instr::Lui { rd, imm } => went(compute(pc, cpu, rd, imm << 12)),
+        Instr::Auipc { rd, imm } => {
+            let n = pc.address().wrapping_add(imm << 12);
+            went(compute(pc, cpu, rd, n))
+        }
+        Instr::Branch {
+            test,
+            left,
+            right,
+            offset,
+        } => went(branch(pc, cpu, test, left, right, offset)),
+        Instr::Immediate { op, rd, left, imm } => {
+            let n = immediate_result(op, cpu.value(left), imm);
+            went(compute(pc, cpu, rd, n))
+        }
+        Instr::Register {
+            op,
+            rd,
+            left,
+            right,
+        } => {
+            let n = register_result(op, cpu.value(left), cpu.value(right));
+            went(compute(pc, cpu, rd, n))
+        }
+        Instr::Fence | Instr::FenceI => went(pass(pc)),
+        _ => false,
+    }
+}
+
+// Whether an instruction went, and accessed nothing.
+#[inline(always)]
+fn went(outcome: Outcome) -> bool
+    ensures yes { result ≡ true → outcome ≡ Went access.Nothing }
+    ensures no { result ≡ false → (outcome ≡ Went access.Nothing → ⊥) }
+{
+    match outcome {
+        Outcome::Went { access } => match access {
+            Access::Nothing => true,
+            _ => false,
+        },
+        Outcome::Fault { .. } => false,
+        Outcome::Syscall => false,
+    }
+}
+
 // Goes on behind an instruction that touched no register and no memory.
 #[inline(always)]
-fn pass(pc: &mut Addr) -> Outcome
+fn pass<P: Counter>(pc: &mut P) -> Outcome
     ensures went { result ≡ Went access.Nothing }
-    ensures pc { pc.new ≡ (pc.old + 4) % 2 ^ 32 }
+    ensures pc { (P.at pc.new) ≡ ((P.at pc.old) + 4) % 2 ^ 32 }
 {
-    *pc = pc.wrapping_add(4);
+    pc.pass();
     Outcome::WENT
 }
 
 // Writes what an instruction computed, and goes on behind it.
 #[inline(always)]
-fn compute(pc: &mut Addr, cpu: &mut Cpu, rd: Reg, n: u32) -> Outcome
-    ensures { (result, with_pc pc.new cpu.new) ≡ computed rd n (with_pc pc.old cpu.old) }
+fn compute<P: Counter>(pc: &mut P, cpu: &mut Cpu, rd: Reg, n: u32) -> Outcome
+    ensures { (result, with_pc (P.at pc.new) cpu.new) ≡ computed rd n (with_pc (P.at pc.old) cpu.old) }
 {
     cpu.write(rd, n);
     pass(pc)
@@ -149,42 +208,49 @@ fn compute(pc: &mut Addr, cpu: &mut Cpu, rd: Reg, n: u32) -> Outcome
 
 // Goes to a target, where that is a multiple of 4.
 #[inline(always)]
-fn jump(pc: &mut Addr, target: Addr) -> Outcome
-    ensures { (r : Registers) → (result, with_pc pc.new r) ≡ jumped target r.regs (with_pc pc.old r) }
+fn jump<P: Counter>(pc: &mut P, target: Addr) -> Outcome
+    ensures { (r : Registers) → (result, with_pc (P.at pc.new) r) ≡ jumped target r.regs (with_pc (P.at pc.old) r) }
 {
     if target % 4 != 0 {
         return Outcome::Fault {
             kind: FaultKind::JumpAlign,
         };
     }
-    *pc = target;
+    pc.go_to(target);
     Outcome::WENT
 }
 
 // Goes to a target, where that is a multiple of 4, and leaves the way back in a register.
 #[inline(always)]
-fn jump_and_link(pc: &mut Addr, cpu: &mut Cpu, rd: Reg, target: Addr) -> Outcome
-    ensures { (result, with_pc pc.new cpu.new) ≡ linked rd target (with_pc pc.old cpu.old) }
+fn jump_and_link<P: Counter>(pc: &mut P, cpu: &mut Cpu, rd: Reg, target: Addr) -> Outcome
+    ensures { (result, with_pc (P.at pc.new) cpu.new) ≡ linked rd target (with_pc (P.at pc.old) cpu.old) }
 {
     if target % 4 != 0 {
         return Outcome::Fault {
             kind: FaultKind::JumpAlign,
         };
     }
-    cpu.write(rd, pc.wrapping_add(4));
-    *pc = target;
+    cpu.write(rd, pc.address().wrapping_add(4));
+    pc.go_to(target);
     Outcome::WENT
 }
 
 // A branch, which goes to a target where the test holds.
 #[inline(always)]
-fn branch(pc: &mut Addr, cpu: &Cpu, test: Test, left: Reg, right: Reg, offset: i32) -> Outcome
-    ensures { (result, with_pc pc.new cpu.now) ≡ branched
+fn branch<P: Counter>(
+    pc: &mut P,
+    cpu: &Cpu,
+    test: Test,
+    left: Reg,
+    right: Reg,
+    offset: i32,
+) -> Outcome
+    ensures { (result, with_pc (P.at pc.new) cpu.now) ≡ branched
         (is_taken test (value cpu.now left) (value cpu.now right))
-        (add_offset pc.old offset) (with_pc pc.old cpu.now) }
+        (add_offset (P.at pc.old) offset) (with_pc (P.at pc.old) cpu.now) }
 {
     if is_taken(test, cpu.value(left), cpu.value(right)) {
-        let target = add_offset(*pc, offset);
+        let target = add_offset(pc.address(), offset);
         jump(pc, target)
     } else {
         pass(pc)

@@ -6,6 +6,7 @@
 
 mod atomics;
 mod bytes;
+mod counter;
 mod cpu;
 mod instruction;
 mod laws;
@@ -13,8 +14,9 @@ mod loads_and_stores;
 mod operations;
 mod outcome;
 
+pub use counter::{Counter, Cursor};
 pub use cpu::Cpu;
-pub use instruction::{execute, execute_reading};
+pub use instruction::{execute, execute_plain, execute_reading};
 pub use laws::every_instruction;
 pub use loads_and_stores::{load_words, store_words};
 pub use operations::add_offset;

@@ -15,7 +15,7 @@ ghost use Rattle.rv_exec.specs.declared.outcome.Access.TheVariants as access;
 ghost use Rattle.rv_exec.specs.declared.outcome.Outcome.TheVariants.{Fault, Went};
 
 use crate::bytes::{read, read_within, words, write};
-use crate::{Access, Cpu, Outcome};
+use crate::{Access, Counter, Cpu, Outcome};
 use guest_memory::{GuestMemory, Reservations, Size};
 use guest_words::{Addr, FaultKind, Tid, Word};
 use rv_isa::{LoadKind, Reg, StoreKind};
@@ -71,20 +71,20 @@ fn store_size(kind: StoreKind) -> Size
 
 /// A load. Its code is short, so that it is inlined in the machine's loop: `load_number` stands apart and answers in a register.
 #[inline(always)]
-pub fn load(
-    pc: &mut Addr,
+pub fn load<P: Counter>(
+    pc: &mut P,
     cpu: &mut Cpu,
     memory: &GuestMemory,
     kind: LoadKind,
     rd: Reg,
     at: Addr,
 ) -> Outcome
-    ensures { (result, with_pc pc.new cpu.new)
-        ≡ loads kind rd at (memory_of memory.now) (with_pc pc.old cpu.old) }
+    ensures { (result, with_pc (P.at pc.new) cpu.new)
+        ≡ loads kind rd at (memory_of memory.now) (with_pc (P.at pc.old) cpu.old) }
 {
     match load_number(cpu, memory, kind, rd, at) {
         Ok(()) => {
-            *pc = pc.wrapping_add(4);
+            pc.pass();
             let (first, count) = words(at, load_size(kind));
             Outcome::Went {
                 access: Access::Read { first, count },

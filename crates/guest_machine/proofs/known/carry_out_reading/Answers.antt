@@ -1,4 +1,4 @@
-use Rattle.std.proofs.Common.{◌≡◌, ℕ, ◌∷◌, ap, sym, subst, ◌∙◌, Ok, Option, Some, IfSome}
+use Rattle.std.proofs.Common.{◌≡◌, ℕ, ◌+◌, ◌%◌, ◌^◌, ◌∷◌, ◌++◌, ap, ap₂, sym, subst, ◌∙◌, Ok, Option, Some, IfSome}
 use Rattle.rv_exec.specs.Effects.{ExecState, effect, exec_state_of}
 use Rattle.rv_isa.specs.declared.instruction.Instr.{Instr}
 use Rattle.guest_memory.specs.declared.memory.GuestMemory.{GuestMemory}
@@ -12,7 +12,8 @@ use Rattle.guest_memory.specs.Guest.{memory_of}
 use Rattle.guest_memory.specs.Reserved.{Reserved, nothing_reserved}
 use Rattle.guest_memory.specs.ReservedBy.{reserved_by}
 use Rattle.trace_model.specs.declared.event_kinds.Event.TheVariants.{Step}
-use Rattle.guest_machine.specs.Step.{instruction_at}
+use Rattle.call_tracker.specs.Links.{kind_of}
+use Rattle.guest_machine.specs.Step.{access_events, instruction_at, jump_events}
 use Rattle.guest_machine.specs.Told.{done_by}
 use Rattle.guest_machine.proofs.Carried.{known_is, state_kept, steps_to}
 use Rattle.guest_machine.proofs.Told.{is_alone, told_done}
@@ -53,7 +54,8 @@ returns-in-Some-Went c = λ tid held.
     c.execute_reading.result c.execute_reading.ensures.effect tid (reserved_by held) (outcome.Went c.in-Some-Went.access) went in (
       λ m is.
           steps_to m tid old is i known c.in-Some-Went.access new effects (Step tid ∷ done_by tid c.told.result)
-          (sym (told_done tid c.told.result c.told.ensures.instruction) ∙ c.told.ensures.events tid),
+          (sym (told_done tid c.told.result c.told.ensures.instruction) ∙ c.told.ensures.events tid
+          ∙ ap₂ (λ (t n : ℕ). Step tid ∷ (access_events tid c.in-Some-Went.access ++ jump_events (kind_of i) tid t ((n + 4) % 2 ^ 32))) c.address.ensures c.address-at.ensures),
       c.told.ensures.instruction,
     )
 
