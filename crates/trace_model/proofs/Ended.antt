@@ -2,7 +2,7 @@
 use Rattle.std.proofs.Common.{◌≡◌, ℕ, suc, ◌+◌, ◌-◌, ◌<◌, ◌≤◌, Bool, true, false, cond, eqb, List, [], ◌∷◌, ◌++◌, length, take, drop, map, get_or, reverse, Option, Some, None, add-one, sym, ap, subst, ◌∙◌, arith}
 use Rattle.std.specs.List.{All}
 use Rattle.std.proofs.lemmas.Bool.{eq-eqb}
-use Rattle.std.proofs.lemmas.List.{reverse-append, take-append-drop, append_assoc, take_at, drop_at, length-reverse, length-drop, take_more, map-append, get_or-reverse}
+use Rattle.std.proofs.lemmas.List.{length-take, reverse-append, take-append-drop, append_assoc, take_at, drop_at, length-reverse, length-drop, take_more, map-append, get_or-reverse}
 use Rattle.std.proofs.lemmas.List.Elements.{All-nil, All-cons, All-append, All-drop, All-weaker, All-get_or}
 use Rattle.trace_model.specs.declared.event_kinds.Event.{Event}
 use Rattle.trace_model.specs.declared.event_kinds.Event.TheVariants.{Call, Ret, Start}
@@ -12,6 +12,14 @@ use Rattle.trace_model.specs.Activations.{begun, count_ending, count_returned, b
 use Rattle.trace_model.specs.Sizes.{since, before}
 use Rattle.trace_model.specs.WellFormed.{IsLight, weight}
 use Rattle.trace_model.proofs.Bounds.{weight-drop}
+
+-- with one element more, that comes first in the reverse
+pub reverse-take_more : {A : Type 0} (xs : List A) (k : ℕ) (x : A) → k < length xs → x ≡ get_or xs k x → reverse (take (k + 1) xs) ≡ x ∷ reverse (take k xs)
+reverse-take_more xs k x inside is =
+    ap reverse (take_more xs k x inside) ∙ (reverse-append (take k xs) (get_or xs k x ∷ []) ∙ ap (λ y. y ∷ reverse (take k xs)) (sym is))
+
+pub length-reverse_take : {A : Type 0} (xs : List A) (k : ℕ) → k < length xs → length (reverse (take k xs)) ≡ k
+length-reverse_take xs k inside = omega (arith, inside, length-reverse (take k xs), length-take k xs)
 
 split : {A : Type 0} (n : ℕ) (xs : List A) → reverse xs ≡ reverse (drop n xs) ++ reverse (take n xs)
 split n xs = ap reverse (sym (take-append-drop n xs)) ∙ reverse-append (take n xs) (drop n xs)
