@@ -49,10 +49,6 @@ module _ (most : ℕ) {K : Type 0} (Holds : K → List Event → List Done → T
   pub is_deep : (e : Event) → is_within most (e ∷ past) ≡ false → is_too_deep most e past ≡ true
   is_deep e is = deep_does_not_fit most e (table_of_state k.stamps) past p.stands ∙ ap not is
 
-pub not_some : {X : Type 0} (o : Option X) → is_some o ≡ false → o ≡ None
-not_some None is = refl
-not_some (Some x) is = absurd (cc)
-
 -- ---- The keeper takes the newest event.
 module _ (most : ℕ) {K : Type 0} (Holds : K → List Event → List Done → Type 0) (k : KeptRun K) (past : List Event) (p : IsProfileOf most Holds k past) where
   -- it is still to take it
