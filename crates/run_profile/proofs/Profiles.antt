@@ -1,6 +1,6 @@
 -- The profile of a run that goes on.
 use Rattle.std.proofs.Common.{◌≡◌, ℕ, zero, suc, ◌+◌, ◌<◌, ◌≤◌, ◌^◌, Bool, true, false, List, [], ◌∷◌, ◌++◌, refl, sym, ap, subst, ◌∙◌, arith}
-use Rattle.std.specs.Prelude.{not, None, Option, Some, is_some}
+use Rattle.std.specs.Prelude.{not, None, Option, Some}
 use Rattle.std.specs.Option.{option_map_or, option_to_list}
 use Rattle.trace_model.specs.declared.event_kinds.Event.{Event}
 use Rattle.trace_model.specs.declared.event_kinds.Event.TheVariants.{Step}
