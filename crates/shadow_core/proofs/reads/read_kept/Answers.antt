@@ -1,4 +1,4 @@
-use Rattle.std.proofs.Common.{◌≡◌, ◌+◌, ◌^◌, arith, cond, pos, refl, sym, ap, ℤ}
+use Rattle.std.proofs.Common.{◌≡◌, ◌+◌, ◌^◌, arith, cond, pos, refl, sym, ap}
 use Rattle.std.proofs.lemmas.Int.{ints}
 use Rattle.shadow_stack.specs.declared.sums.Sums.{Sums}
 use Rattle.stamp_lanes.specs.Plain.{Place}

@@ -1,6 +1,4 @@
-use Rattle.std.proofs.Common.{◌≡◌, ◌∙◌, ◌+◌, ◌∷◌, [], arith, ap, refl, subst, sym, true, List, Some}
-use Rattle.trace_model.specs.declared.slow_profile.Done.{Done}
-use Rattle.trace_model.specs.Depth.{is_within}
+use Rattle.std.proofs.Common.{◌∙◌, [], arith, ap, refl, subst, sym}
 use Rattle.run_profile.specs.Profile.{IsProfileOf, KeptRun}
 use Rattle.run_profile.proofs.Profiles.{few_steps, not_taken, passed, quiet, refused, settled, waits}
 use Rattle.run_profile.proofs.profile.Profile.observe_open.Goals as goal
