@@ -1,6 +1,5 @@
-use Rattle.std.proofs.Common.{rules, ◌≡◌, ℕ, Bool, true, List, Option, Some, IfSome, ◌+◌, ◌*◌, ◌%◌, ◌^◌, ◌++◌, Ok, Err, IfOk, sym, ap, subst, ◌∙◌, arith}
+use Rattle.std.proofs.Common.{rules, ◌≡◌, ℕ, Bool, List, Some, ◌+◌, ◌*◌, ◌%◌, ◌^◌, ◌++◌, Ok, Err, IfOk, sym, ap, subst, ◌∙◌, arith}
 use Rattle.std.proofs.lemmas.Int.{to_z-of_z}
-use Rattle.rv_isa.specs.declared.instruction.Instr.{Instr}
 use Rattle.guest_memory.specs.Code.{IsInstructionAt, known_of}
 use Rattle.guest_memory.specs.ReservedBy.{reserved_by}
 use Rattle.guest_memory.specs.declared.memory.GuestMemory.{GuestMemory}
