@@ -23,9 +23,9 @@ paid : (most depth gap : ℕ) (past : List Event) → gap + 3 * depth + 2 ≤ mo
     counter_of most past + renumberings most past * gap ≤ tick_count past
 paid most depth gap [] room low = omega arith
 paid most depth gap (e ∷ past) room low =
-    let depth : pending past ≤ depth = low (e ∷ []) past refl in
+    let few : pending past ≤ depth = low (e ∷ []) past refl in
     one_more most (pending past) gap (counter_of most past) (renumberings most past) (tick_count past)
-    (ticks e (last_step past)) (omega (arith, depth, room))
+    (ticks e (last_step past)) (omega (arith, few, room))
     (paid most depth gap past room (λ later earlier same. low (e ∷ later) earlier (ap (λ p. e ∷ p) same)))
 
 pub renumberings_are_rare : RenumberingsAreRare
