@@ -82,7 +82,7 @@ def of_program(text: str) -> Options:
         found = {Option(f"--{name}", kind != "flag", kind == "required_option") for kind, name in kinds}
         if "output_option(alloc)" in body:
             found.add(Option("-o", True, True))
-        return found.union(*(options(bodies[other]) for other in re.findall(r"(\w+_subcommand)\(", body)))
+        return found.union(*(options(bodies[other]) for other in re.findall(r"(\w+_subcommand|with_options)\(", body)))
 
     commands: Options = {}
     for function, name in re.findall(r"\b(\w+_subcommand)\(alloc(?:, \"(\w+)\")?\)", bodies["whole_command"]):
