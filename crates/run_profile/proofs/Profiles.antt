@@ -1,6 +1,6 @@
 -- The profile of a run that goes on.
 use Rattle.std.proofs.Common.{◌≡◌, ℕ, zero, suc, ◌+◌, ◌<◌, ◌≤◌, ◌^◌, Bool, true, false, List, [], ◌∷◌, ◌++◌, refl, sym, ap, subst, ◌∙◌, arith}
-use Rattle.std.specs.Prelude.{not, None, Option, Some}
+use Rattle.std.specs.Prelude.{not, None, Option, Some, is_some}
 use Rattle.std.specs.Option.{option_map_or, option_to_list}
 use Rattle.trace_model.specs.declared.event_kinds.Event.{Event}
 use Rattle.trace_model.specs.declared.event_kinds.Event.TheVariants.{Step}
@@ -48,6 +48,10 @@ module _ (most : ℕ) {K : Type 0} (Holds : K → List Event → List Done → T
   -- what does not fit is too deep
   pub is_deep : (e : Event) → is_within most (e ∷ past) ≡ false → is_too_deep most e past ≡ true
   is_deep e is = deep_does_not_fit most e (table_of_state k.stamps) past p.stands ∙ ap not is
+
+pub not_some : {X : Type 0} (o : Option X) → is_some o ≡ false → o ≡ None
+not_some None is = refl
+not_some (Some x) is = absurd (cc)
 
 -- ---- The keeper takes the newest event.
 module _ (most : ℕ) {K : Type 0} (Holds : K → List Event → List Done → Type 0) (k : KeptRun K) (past : List Event) (p : IsProfileOf most Holds k past) where
@@ -162,11 +166,6 @@ module _ (most : ℕ) {K : Type 0} (Holds : K → List Event → List Done → T
       kept = (cleared after).kept;
       steps_are = p.steps_are;
     }
-
--- An event that ends nothing, whatever list it was taken with.
-pub quiet : {most : ℕ} {e : Event} {past : List Event} {new : State} {before after last : List Done} → IsTaken most e past new before after →
-    ended e past ≡ [] → last ≡ [] → IsTaken most e past new [] last
-quiet taken none is = record { stands = taken.stands; fits = taken.fits; recorded = is ∙ sym none }
 
 -- ---- Steps in a row.
 steps_more : (tid n : ℕ) (past : List Event) → steps (with_steps tid n past) ≡ steps past + n

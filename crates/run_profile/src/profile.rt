@@ -56,13 +56,14 @@ fn steps_of(e: &Event) -> u64
 }
 
 // The list gets one element, for which it has room.
-#[inline(always)]
-fn make_only(list: &mut Vec<Done>, one: Done)
+#[cold]
+#[inline(never)]
+fn make_only(list: &mut Vec<Done>, one: &Done)
     requires { 1 ≤ vec_capacity list.old }
-    ensures { list.new.items ≡ one ∷ [] }
+    ensures { list.new.items ≡ one.now ∷ [] }
 {
     list.clear();
-    list.push(one).unwrap();
+    list.push(*one).unwrap();
 }
 
 impl<S: Lanes, K: Keeper> Profile<S, K> {
@@ -154,12 +155,14 @@ impl<S: Lanes, K: Keeper> Profile<S, K> {
     // Takes a return. Mostly it ends one activation, whose record then need not go through the list.
     #[inline(always)]
     fn observe_return(&mut self, tid: Tid, target: Addr) -> Result<Observed, AllocError>
-        requires may { MayTake (IsProfileOf S.MAX K.holds) self.old (Ret tid target) }
-        requires settled { self.old.next ≡ None }
+        requires { MayTake (IsProfileOf S.MAX K.holds) self.old (Ret tid target) }
         ensures observed { IfOk result (Observes (IsProfileOf S.MAX K.holds) (is_within S.MAX) (Ret tid target) self.old self.new) }
         ensures refused { OnErr result (StandsAsBefore (IsProfileOf S.MAX K.holds) self.old self.new) }
     {
         let e = Event::Ret { tid, target };
+        if self.next.is_some() {
+            return self.observe_apart(e);
+        }
         if self.ended.capacity() < 1 {
             return self.observe_apart(e);
         }
@@ -170,62 +173,11 @@ impl<S: Lanes, K: Keeper> Profile<S, K> {
                 if self.kept.pass(&e, &ends) {
                     return Ok(Observed::Taken);
                 }
-                make_only(&mut self.ended, ends[0]);
+                make_only(&mut self.ended, &ends[0]);
                 self.next = Some(e);
                 Ok(Observed::Taken)
             }
             None => self.observe_apart(e),
-        }
-    }
-
-    // Takes steps of a thread, where the keeper has taken all.
-    #[inline(always)]
-    fn take_steps(&mut self, tid: Tid, count: u64)
-        requires may { MayStepBy (IsProfileOf S.MAX K.holds) (is_within S.MAX) self.old tid count }
-        requires some { 1 ≤ count }
-        requires settled { self.old.next ≡ None }
-        ensures stepped { StepsBy (IsProfileOf S.MAX K.holds) (is_within S.MAX) tid count self.old self.new }
-        ensures settled { self.new.next ≡ None }
-    {
-        self.profiler.take_steps(tid, count);
-        self.kept.take_steps(tid, count);
-        self.steps += count;
-    }
-
-    // Takes an event that ends no activation, where the keeper has taken all.
-    #[inline(always)]
-    fn observe_open(&mut self, e: Event) -> Result<Observed, AllocError>
-        requires may { MayTake (IsProfileOf S.MAX K.holds) self.old e }
-        requires settled { self.old.next ≡ None }
-        requires none { (past : List Event) → ended e past ≡ [] }
-        ensures observed { IfOk result (Observes (IsProfileOf S.MAX K.holds) (is_within S.MAX) e self.old self.new) }
-        ensures refused { OnErr result (StandsAsBefore (IsProfileOf S.MAX K.holds) self.old self.new) }
-    {
-        match self.profiler.apply(e, &mut self.ended) {
-            Ok(()) => {
-                self.steps += steps_of(&e);
-                if !self.kept.pass(&e, &[]) {
-                    self.ended.clear();
-                    self.next = Some(e);
-                }
-                Ok(Observed::Taken)
-            }
-            Err(ApplyError::TooDeep { .. }) => Ok(Observed::Refused),
-            Err(ApplyError::Memory) => Err(AllocError),
-        }
-    }
-
-    // Takes an event, where the keeper has taken all.
-    #[inline(always)]
-    fn observe_settled(&mut self, e: Event) -> Result<Observed, AllocError>
-        requires may { MayTake (IsProfileOf S.MAX K.holds) self.old e }
-        requires settled { self.old.next ≡ None }
-        ensures observed { IfOk result (Observes (IsProfileOf S.MAX K.holds) (is_within S.MAX) e self.old self.new) }
-    {
-        match e {
-            Event::Ret { tid, target } => self.observe_return(tid, target),
-            Event::Read { .. } | Event::Write { .. } | Event::Call { .. } => self.observe_open(e),
-            _ => self.observe(e),
         }
     }
 
@@ -299,9 +251,11 @@ impl<S: Lanes, K: Keeper> Observer for Profile<S, K> {
 
     #[inline(always)]
     fn observe_after(&mut self, tid: Tid, count: u64, e: Event) -> Result<Observed, AllocError> {
-        self.settle()?;
-        self.take_steps(tid, count);
-        self.observe_settled(e)
+        self.observe_steps(tid, count)?;
+        match e {
+            Event::Ret { tid, target } => self.observe_return(tid, target),
+            _ => self.observe(e),
+        }
     }
 
     #[inline(always)]
@@ -311,7 +265,9 @@ impl<S: Lanes, K: Keeper> Observer for Profile<S, K> {
         ensures stepped { OnOk result (StepsBy (IsProfileOf S.MAX K.holds) (is_within S.MAX) tid count self.old self.new) }
     {
         self.settle()?;
-        self.take_steps(tid, count);
+        self.profiler.take_steps(tid, count);
+        self.kept.take_steps(tid, count);
+        self.steps += count;
         Ok(())
     }
 }

@@ -5,20 +5,20 @@ use Rattle.trace_model.specs.Depth.{is_within}
 use Rattle.trace_model.specs.Observing.{MayTake, Observes, StandsAsBefore}
 use Rattle.shadow_core.specs.State.{State}
 use Rattle.run_profile.specs.Profile.{IsProfileOf, KeptRun}
-use Rattle.run_profile.proofs.Profiles.{passed, recorded, settled}
+use Rattle.run_profile.proofs.Profiles.{not_some, passed, recorded, settled}
 use Rattle.run_profile.proofs.profile.Profile.observe_return.Goals as goal
 
 pub return_one-requires : goal.return_one-requires
 return_one-requires g c =
-    let past = c.requires.may.past in
-    let p = subst (λ (k : KeptRun g.row.K.Denot). IsProfileOf g.S.Stamp.MAX g.K.Keeper.holds k past) (sym c.self.view_is) c.requires.may.now in
-    record { past = past; now = p.stands; formed = c.requires.may.formed }
+    let past = c.requires.past in
+    let p = subst (λ (k : KeptRun g.row.K.Denot). IsProfileOf g.S.Stamp.MAX g.K.Keeper.holds k past) (sym c.self.view_is) c.requires.now in
+    record { past = past; now = p.stands; formed = c.requires.formed }
 
 pub returns-then-pass-clause-observed : goal.returns-then-pass-clause-observed
 returns-then-pass-clause-observed g c = λ past kept.
     let e = Ret c.args.tid c.args.target in
     let p = subst (λ (k : KeptRun g.row.K.Denot). IsProfileOf g.S.Stamp.MAX g.K.Keeper.holds k past) (sym c.self.view_is) kept in
-    let none : c.self.inside.next ≡ None = ap (λ (k : KeptRun g.row.K.Denot). k.next) c.self.view_is ∙ c.requires.settled in
+    let none : c.self.inside.next ≡ None = not_some c.self.inside.next (sym c.is_some.ensures ∙ c.if-is_some.false) in
     let d = c.in-Some.ended in
     let taken = c.in-Some.ensures.stands past p.stands in
     passed g.S.Stamp.MAX g.K.Keeper.holds _ past p none e c.return_one.new.self [] (d ∷ []) refl taken c.pass.new.self c.steps_of.result c.steps_of.ensures
@@ -29,7 +29,7 @@ pub observe_apart-requires-in-None : goal.observe_apart-requires-in-None
 observe_apart-requires-in-None g c =
     let old : KeptRun g.row.K.Denot = record { stamps = c.self.inside.profiler; kept = c.self.inside.kept; next = c.self.inside.next; ended = c.self.inside.ended.items; steps = c.self.inside.steps } in
     let same = ap (λ (s : State). record old { stamps = s }) c.in-None.ensures.same ∙ c.self.view_is in
-    subst (λ (k : KeptRun g.row.K.Denot). MayTake (IsProfileOf g.S.Stamp.MAX g.K.Keeper.holds) k (Ret c.args.tid c.args.target)) (sym same) c.requires.may
+    subst (λ (k : KeptRun g.row.K.Denot). MayTake (IsProfileOf g.S.Stamp.MAX g.K.Keeper.holds) k (Ret c.args.tid c.args.target)) (sym same) c.requires
 
 pub returns-in-None-clause-observed : goal.returns-in-None-clause-observed
 returns-in-None-clause-observed g c =

@@ -1,21 +1,35 @@
-use Rattle.std.proofs.Common.{refl}
+use Rattle.std.proofs.Common.{refl, subst, sym}
+use Rattle.std.specs.Prelude.{IfOk}
 use Rattle.std.proofs.lemmas.Result.{IfOk-weaker}
 use Rattle.trace_model.specs.Depth.{is_within}
+use Rattle.trace_model.specs.declared.event_kinds.Event.TheVariants.{Ret}
+use Rattle.trace_model.specs.Observing.{ObservesAfter}
 use Rattle.trace_model.proofs.Feeding.{observes_after}
 use Rattle.run_profile.specs.Profile.{IsProfileOf}
 use Rattle.run_profile.proofs.profile.ProfileObserver.observe_after.Goals as goal
 
-pub returns : goal.returns
-returns g c =
+pub returns-in-Ret-clause-observed : goal.returns-in-Ret-clause-observed
+returns-in-Ret-clause-observed g c =
     let old = c.args.self.now in
-    let mid = c.take_steps.new.self in
-    let new = c.observe_settled.new.self in
+    let mid = c.observe_steps.new.self in
+    let new = c.observe_return.new.self in
+    let Stands = IsProfileOf g.S.Stamp.MAX g.K.Keeper.holds in
+    subst (λ e. IfOk c.observe_return.result (ObservesAfter Stands (is_within g.S.Stamp.MAX) c.args.tid c.args.count e old new)) (sym c.in-Ret.is)
+    (IfOk-weaker c.observe_return.result _ _
+    (λ observed h.
+    observes_after Stands (is_within g.S.Stamp.MAX) c.args.tid c.args.count (Ret c.in-Ret.tid c.in-Ret.target) old mid c.in_ok-observe_steps.ensures.stepped new observed h)
+    c.observe_return.ensures.observed)
+
+pub returns-in_default : goal.returns-in_default
+returns-in_default g c =
+    let old = c.args.self.now in
+    let mid = c.observe_steps.new.self in
+    let new = c.observe.new.self in
     let Stands = IsProfileOf g.S.Stamp.MAX g.K.Keeper.holds in
     record {
       observed =
-          IfOk-weaker c.observe_settled.result _ _
-          (λ observed h. observes_after Stands (is_within g.S.Stamp.MAX) c.args.tid c.args.count c.args.e old mid
-          (λ past kept fitting. c.take_steps.ensures.stepped past (c.settle.ensures.stands past kept) fitting) new observed h)
-          c.observe_settled.ensures.observed;
+          IfOk-weaker c.observe.result _ _
+          (λ observed h. observes_after Stands (is_within g.S.Stamp.MAX) c.args.tid c.args.count c.args.e old mid c.in_ok-observe_steps.ensures.stepped new observed h)
+          c.observe.ensures.observed;
       same = refl;
     }
