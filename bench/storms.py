@@ -118,7 +118,7 @@ def sleeping(rounds: int) -> list[int]:
 
 
 def mmap(size: int) -> list[int]:
-    """The kernel's call that maps so many bytes anywhere."""
+    """The kernel's call that maps `size` bytes anywhere."""
     return [addi(10, 0, 0), *number(11, size), addi(12, 0, 3), addi(13, 0, 0x22), addi(14, 0, -1), addi(15, 0, 0), *syscall(NR_MMAP)]
 
 
