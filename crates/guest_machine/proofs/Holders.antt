@@ -12,6 +12,7 @@ use Rattle.guest_kernel.specs.Kernel.{lives}
 use Rattle.guest_kernel.proofs.Blocked as calls
 use Rattle.guest_machine.specs.Machine.{Hart, MachineState, can_run, without_hart}
 use Rattle.guest_words.specs.ByThread.{value_of}
+use Rattle.guest_machine.specs.Kept.{Parts, machine_of}
 use Rattle.guest_machine.specs.Sound.{IsSoundMachine}
 use Rattle.guest_machine.proofs.Registers.{lives_here}
 use Rattle.guest_calls.proofs.Lawful.{any_thread}
@@ -85,3 +86,7 @@ HoldAtMost-others m tid sound can =
           let held : is_some (m.held q) ≡ true = some_of_rest (q == tid) (m.held q) some in
           other m.harts q tid (lives-harts m q sound.same_threads ∙ sound.holders q held) (gone_by q tid (m.held q) (q == tid) refl some);
     }
+
+-- a thread can run on parts that are the same
+pub able_on : (p q : Parts) (tid : ℕ) → p ≡ q → can_run (machine_of q) tid ≡ true → can_run (machine_of p) tid ≡ true
+able_on p q tid same can = ap (λ (r : Parts). can_run (machine_of r) tid) same ∙ can

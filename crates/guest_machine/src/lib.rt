@@ -7,7 +7,6 @@
 #![tactic(auto)]
 
 mod answers;
-mod guest;
 mod hart;
 mod image_pages;
 mod known;
@@ -20,6 +19,7 @@ mod stack;
 mod start_memory;
 mod step_events;
 mod stepped;
+mod stepping;
 mod telling;
 mod waking;
 

@@ -1,37 +1,43 @@
-//! The machine, and one step of a thread.
-ghost use Rattle.std.specs.Prelude.{◌≡◌, ◌≢◌, ◌≤◌, true, Ok, OnErr, IfOk, IsOk};
+//! The machine.
+ghost use Rattle.std.specs.Prelude.{◌≡◌, ◌≤◌, true, IfOk};
 
-use crate::guest::Guest;
-use crate::setup::first_guest;
+use crate::rows::run_on;
+use crate::setup::first_machine;
 use crate::stack::strings_length;
-use crate::{Advanced, KnownSteps, SetupError, Stepped};
+use crate::{KnownSteps, SetupError};
 use elf_image::Image;
-use guest_kernel::{Channel, Inputs};
+use guest_kernel::{Channel, Inputs, Kernel};
+use guest_memory::{GuestMemory, Reservations};
 use guest_words::limits::{PAGES, STACK_PAGES};
-use guest_words::{Addr, ReadyList, Tid};
+use guest_words::{Addr, ByThread, ReadyList, Tid};
+use rv_exec::Cpu;
 use std::alloc::{AllocError, Global};
 use std::marker::Model;
-use trace_model::{Events, Observer};
+use trace_model::Observer;
 
 /// A guest between two steps.
 #[derive(Drop)]
 pub struct Machine {
-    guest: Guest,
+    pub(crate) harts: ByThread<Cpu>,
+    pub(crate) kernel: Kernel,
+    pub(crate) memory: GuestMemory,
+    pub(crate) held: Reservations,
+    /// Where thread 1 began.
+    pub(crate) entry: Addr,
+    /// Whether the last step was a system call.
+    pub(crate) called: bool,
 }
 
 impl Model for Machine {
-    ghost use Rattle.std.specs.Prelude.{◌≤◌, ◌+◌, length};
-    ghost use Rattle.guest_words.specs.declared.limits.TheConstants.{THREADS};
-    ghost use Rattle.guest_machine.specs.Kept.{Parts, machine_of};
-    ghost use Rattle.guest_machine.specs.Parts.{parts_of};
-    ghost use Rattle.guest_machine.specs.Sound.{IsSoundMachine};
+    ghost use Rattle.guest_machine.specs.Kept.{Parts};
 
     ghost Value = { Parts };
 
-    ghost view = { λ m. parts_of m.guest };
+    ghost use Rattle.guest_machine.specs.Parts.{IsKept, parts_of};
 
-    ghost invariant = { λ m. (THREADS ≤ length m.guest.harts.list + m.guest.harts.room)
-        × IsSoundMachine (machine_of (parts_of m.guest)) };
+    ghost view = { parts_of };
+
+    ghost invariant = { IsKept };
 }
 
 // The most pages of the image, so that the stack has room.
@@ -43,14 +49,9 @@ impl Machine {
     ghost use Rattle.guest_machine.specs.Setup.{setup_refusal};
     ghost use Rattle.guest_machine.specs.Start.{start};
     ghost use Rattle.std.specs.Option.{option_map};
-    ghost use Rattle.rv_isa.specs.declared.instruction.Instr.TheVariants.{Ecall};
-    ghost use Rattle.guest_machine.specs.Kept.{machine_of, out_of, IsAsBefore, Steps};
+    ghost use Rattle.guest_machine.specs.Kept.{machine_of, out_of};
     ghost use Rattle.guest_machine.specs.Machine.{can_run, ready};
     ghost use Rattle.guest_machine.specs.Running.{MakesSteps, MayTakeSteps};
-    ghost use Rattle.guest_machine.specs.Told.{IsQuiet, StepsTold};
-    ghost use Rattle.std.specs.Prelude.{◌++◌};
-    ghost use Rattle.guest_machine.specs.Step.{next_instruction, step};
-    ghost use Rattle.guest_machine.specs.Waking.{woken};
 
     /// A machine that begins: the image's segments, the argument strings, the first of which is the program's name, the
     /// input files, and what is on standard input.
@@ -74,8 +75,7 @@ impl Machine {
         if image.page_count() > IMAGE_LIMIT {
             return Err(SetupError::Pages);
         }
-        let guest = first_guest(alloc, image, arguments, inputs, stdin, text_bytes)?;
-        Ok(Machine { guest })
+        Ok(first_machine(alloc, image, arguments, inputs, stdin, text_bytes)?)
     }
 
     /// The channel and the bytes that the last step wrote, where it was a write of at least one byte.
@@ -83,8 +83,8 @@ impl Machine {
     pub fn outgoing(&self) -> Option<(Channel, &[u8])>
         ensures out { option_map (λ out. (out.0, out.1.now)) result ≡ out_of self.now }
     {
-        if self.guest.called {
-            self.guest.kernel.outgoing()
+        if self.called {
+            self.kernel.outgoing()
         } else {
             None
         }
@@ -108,67 +108,32 @@ impl Machine {
         ensures same { W.fits observer.new ≡ W.fits observer.old }
         ensures entry { self.new.entry ≡ self.old.entry }
     {
-        self.guest.run_known(tid, most, observer)
-    }
-
-    /// Runs one step of a thread that can run. The events of an instruction that went are told by what it did, and those of
-    /// any other step are added. An instruction other than ECALL does not allocate.
-    pub fn advance(&mut self, tid: Tid, events: &mut Events) -> Result<Advanced, AllocError>
-        requires { can_run (machine_of self.old) tid ≡ true }
-        ensures step { IfOk result (λ advanced. StepsTold (step (machine_of self.old) tid)
-            tid advanced self.new events.old.list events.new.list) }
-        ensures refused { OnErr result (IsAsBefore self.old self.new
-            events.old.list events.new.list) }
-        ensures no_allocation { next_instruction (machine_of self.old) tid ≢ Ok Ecall → IsOk result }
-        ensures entry { self.new.entry ≡ self.old.entry }
-        ensures quiet { IfOk result (λ advanced. IsQuiet advanced self.new events.old events.new) }
-    {
-        self.guest.advance(tid, events)
-    }
-
-    /// Runs one step of a thread that can run, and adds its events. An instruction other than ECALL does not allocate if
-    /// there is room for four events.
-    pub fn step(&mut self, tid: Tid, events: &mut Events) -> Result<Stepped, AllocError>
-        requires { can_run (machine_of self.old) tid ≡ true }
-        ensures step { IfOk result (λ stepped. Steps
-            (step (machine_of self.old) tid) stepped self.new events.old.list events.new.list) }
-        ensures refused { OnErr result (IsAsBefore self.old self.new
-            events.old.list events.new.list) }
-        ensures no_allocation { 4 ≤ events.old.room → next_instruction
-            (machine_of self.old) tid ≢ Ok Ecall → IsOk result }
-        ensures entry { self.new.entry ≡ self.old.entry }
-    {
-        self.guest.step(tid, events)
-    }
-
-    /// Wakes all threads that are due by the clock, each with its deadline's answer in a0. Where then no thread can run and a
-    /// deadline is left, the time goes on to the earliest, and those due are woken. It does not allocate.
-    pub fn wake_due(&mut self)
-        ensures woken { machine_of self.new ≡ woken (machine_of self.old) }
-        ensures out { out_of self.new ≡ out_of self.old }
-        ensures entry { self.new.entry ≡ self.old.entry }
-    {
-        self.guest.wake_due();
+        let cpu = self.harts.get_mut(tid).unwrap();
+        let (count, observed) = run_on(cpu, &mut self.memory, &mut self.held, tid, most, observer);
+        self.called = false;
+        self.kernel.advance_by(count);
+        let observed = observed?;
+        Ok(KnownSteps { count, observed })
     }
 
     /// Whether the thread lives, does not wait and has no deadline.
     pub fn can_run(&self, tid: Tid) -> bool
         ensures { result ≡ can_run (machine_of self.now) tid }
     {
-        self.guest.kernel.can_run(tid)
+        self.kernel.can_run(tid)
     }
 
     /// Lists the live threads, rising, each with whether it can run.
     pub fn ready_into(&self, into: &mut ReadyList)
         ensures { into.new ≡ ready (machine_of self.now) }
     {
-        self.guest.kernel.ready_into(into);
+        self.kernel.ready_into(into);
     }
 
     /// Where thread 1 began.
     pub fn entry(&self) -> Addr
         ensures { result ≡ self.now.entry }
     {
-        self.guest.entry
+        self.entry
     }
 }

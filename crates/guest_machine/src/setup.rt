@@ -1,12 +1,10 @@
 //! The start of a guest.
-ghost use Rattle.std.specs.Prelude.{◌≡◌, ◌≤◌, ◌+◌, ◌-◌, ◌*◌, ◌/◌, false, length, map, slice_set, replicate, string_bytes, IfOk};
+ghost use Rattle.std.specs.Prelude.{◌≡◌, ◌≤◌, ◌+◌, ◌-◌, ◌*◌, ◌/◌, length, map, slice_set, replicate, string_bytes, None, IfOk};
 ghost use Rattle.elf_image.specs.Image.{page_count};
-ghost use Rattle.guest_machine.specs.Kept.{machine_of};
-ghost use Rattle.guest_machine.specs.Parts.{parts_of};
-ghost use Rattle.guest_machine.specs.Sound.{IsSoundMachine};
+ghost use Rattle.guest_machine.specs.Kept.{machine_of, out_of};
 ghost use Rattle.guest_machine.specs.Start.{start, strings};
 
-use crate::guest::Guest;
+use crate::Machine;
 use crate::image_pages::greatest_end;
 use crate::stack::{RANDOM_ADDRESS, STRINGS_LIMIT};
 use crate::start_memory::start_memory;
@@ -63,24 +61,22 @@ fn first_cpu(entry: Addr, pointer: Addr) -> Cpu
     cpu
 }
 
-/// A guest that begins, where the argument strings have `text_bytes` bytes with their zero bytes.
-pub(crate) fn first_guest(
+/// A machine that begins, where the argument strings have `text_bytes` bytes with their zero bytes.
+pub(crate) fn first_machine(
     alloc: Global,
     image: &Image,
     arguments: &[String],
     inputs: Inputs,
     stdin: Vec<u8>,
     text_bytes: u32,
-) -> Result<Guest, AllocError>
+) -> Result<Machine, AllocError>
     requires texts { text_bytes ≡ length (strings (map string_bytes arguments.now)) }
     requires limit { text_bytes ≤ STRINGS_LIMIT }
     requires few { page_count image.now.segments + STACK_PAGES ≤ PAGES }
-    ensures start { IfOk result (λ guest. machine_of (parts_of guest)
+    ensures start { IfOk result (λ machine. machine_of machine
         ≡ start image.now (map string_bytes arguments.now) inputs stdin.items) }
-    ensures sound { IfOk result (λ guest. IsSoundMachine (machine_of (parts_of guest))) }
-    ensures spare { IfOk result (λ guest. THREADS ≤ length guest.harts.list + guest.harts.room) }
-    ensures entry { IfOk result (λ guest. guest.entry ≡ image.now.entry) }
-    ensures called { IfOk result (λ guest. guest.called ≡ false) }
+    ensures out { IfOk result (λ machine. out_of machine ≡ None) }
+    ensures entry { IfOk result (λ machine. machine.entry ≡ image.now.entry) }
 {
     let first = RANDOM_ADDRESS - text_bytes;
     let pointer = stack_pointer(first, arguments.len());
@@ -90,7 +86,7 @@ pub(crate) fn first_guest(
     let mut harts = ByThread::new(alloc);
     harts.reserve(THREADS)?;
     harts.insert(Tid::FIRST, first_cpu(image.entry(), pointer))?;
-    Ok(Guest {
+    Ok(Machine {
         harts,
         kernel,
         memory,

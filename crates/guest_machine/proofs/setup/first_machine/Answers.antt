@@ -1,4 +1,4 @@
-use Rattle.std.proofs.Common.{◌≡◌, ◌∙◌, [], ◌∷◌, ◌++◌, ap, arith, length, map, string_bytes, subst, sym, false}
+use Rattle.std.proofs.Common.{rules, ◌≡◌, ◌∙◌, [], ◌∷◌, ◌++◌, ap, arith, length, map, string_bytes, subst, sym, false}
 use Rattle.std.proofs.lemmas.List.{length-map}
 use Rattle.rv_exec.specs.Registers.{Registers}
 use Rattle.guest_machine.specs.Start.{first_break, greatest_end, stack_pointer}
@@ -9,7 +9,7 @@ use Rattle.guest_machine.specs.Sound.{IsSoundMachine}
 use Rattle.guest_machine.specs.Parts.{parts_of}
 use Rattle.guest_machine.proofs.Starts.{break_is, only_hart, start_is, start_sound}
 use Rattle.guest_machine.proofs.Stacks.{fewer_strings}
-use Rattle.guest_machine.proofs.setup.first_guest.Goals as goal
+use Rattle.guest_machine.proofs.setup.first_machine.Goals as goal
 
 pub stack_pointer-pointer-requires-clause-few : goal.stack_pointer-pointer-requires-clause-few
 stack_pointer-pointer-requires-clause-few c =
@@ -32,10 +32,13 @@ returns-clause-start c =
     c.in_ok-memory.ensures
     c.new-2.ensures
 
-pub returns-clause-sound : goal.returns-clause-sound
-returns-clause-sound c =
+pub invariant_of-result : goal.invariant_of-result
+invariant_of-result c =
     let texts = map string_bytes c.args.arguments.now in
     let top = c.next_multiple_of-first_break in
     let break : top.result ≡ first_break c.args.image.now.segments = break_is c.args.image.now.segments c.greatest_end.result top.result (c.greatest_end.ensures.value ∙ ap greatest_end c.segments.ensures.same) top.ensures.lower_bound top.ensures.upper_bound top.ensures.multiple in
     let state = subst IsState (ap (λ (k : Kernel). k.state) c.in_ok-kernel.ensures.started ∙ ap (started c.args.inputs c.args.stdin.items) break) c.in_ok-kernel.ensures.state in
-    subst IsSoundMachine (sym (returns-clause-start c)) (start_sound c.args.image.now texts c.args.inputs c.args.stdin.items c.segments.ensures.sound state)
+    record {
+      spare = search rules;
+      sound = subst IsSoundMachine (sym (returns-clause-start c)) (start_sound c.args.image.now texts c.args.inputs c.args.stdin.items c.segments.ensures.sound state);
+    }
