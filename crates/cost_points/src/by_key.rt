@@ -34,6 +34,16 @@ impl<T> Model for ByKey<T> {
     ghost invariant = { λ k. AreIndexed (map (λ b. b.items) k.blocks.items) k.count k.starts.items };
 }
 
+// The place becomes another one. Mostly it is that already, and nothing is written.
+#[inline(always)]
+fn note(last: &mut Place, place: Place)
+    ensures { last.new ≡ place }
+{
+    if *last != place {
+        *last = place;
+    }
+}
+
 impl<T> ByKey<T> {
     ghost use Rattle.cost_points.specs.LentItem.{lends_item};
 
@@ -52,7 +62,7 @@ impl<T> ByKey<T> {
         ensures* writes_back { sem 𝓛 (lends_item T.row self.entry place.block place.at result) }
         ensures found { result.now ≡ get_or (get_or self.old place.block []) place.at result.now }
     {
-        self.last = place;
+        note(&mut self.last, place);
         let block = &mut self.blocks[place.block];
         &mut block[place.at]
     }
