@@ -1,4 +1,4 @@
-use Rattle.std.proofs.Common.{◌≡◌, ◌<◌, get_or, length, map, refl, reverse, ap, subst, sym, ◌∙◌, arith}
+use Rattle.std.proofs.Common.{◌≡◌, ◌<◌, get_or, length, refl, reverse, ap, subst, sym, ◌∙◌, arith}
 use Rattle.std.proofs.lemmas.List.{length-map}
 use Rattle.std.proofs.lemmas.Option.{get_or_from_slice_get}
 use Rattle.call_tracker.specs.Missed.{AreMissed}
@@ -13,8 +13,7 @@ invariant_of-self g c =
     let within : c.args.i < length items = omega (arith, c.requires.within, length-map items (seen (λ x. g.S.Stamp.number_of x.start) (λ x. x.sums)), ap (λ (s : Stack). length s.list) c.self.view_is) in
     let old : Kept g.row.S.Denot = c.at_mut-entry.result.now in
     let new : Kept g.row.S.Denot = record old { sums = c.plus-entry.result } in
-    let was : old ≡ get_or items c.args.i old = sym (get_or_from_slice_get items c.args.i old old c.at_mut-entry.ensures.value) in
-    (
+    let was : old ≡ get_or items c.args.i old = sym (get_or_from_slice_get items c.args.i old old c.at_mut-entry.ensures.value) in (
       subst IsRising (sym (same-set (λ x. g.S.Stamp.number_of x.start) items c.args.i old new within was refl)) c.self.invariant.0,
       subst (λ bs. AreMissed bs c.self.inside.missed) (sym (same-set (λ x. x.call.back) items c.args.i old new within was refl)) c.self.invariant.1,
     )

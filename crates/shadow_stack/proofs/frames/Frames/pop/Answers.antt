@@ -11,11 +11,10 @@ pub invariant_of-self-then-depth-gt0 : goal.invariant_of-self-then-depth-gt0
 invariant_of-self-then-depth-gt0 g c =
     let start = g.S.Stamp.number_of c.in_ok-top.top.start in
     let left = c.pop.new.self.items in
-    let starts_are = ap (map (λ x. g.S.Stamp.number_of x.start)) c.in_ok-top.ensures.items ∙ map-append (λ x. g.S.Stamp.number_of x.start) left (c.in_ok-top.top ∷ []) in
-    (
+    let starts_are = ap (map (λ x. g.S.Stamp.number_of x.start)) c.in_ok-top.ensures.items ∙ map-append (λ x. g.S.Stamp.number_of x.start) left (c.in_ok-top.top ∷ []) in (
       rising_front (map (λ x. g.S.Stamp.number_of x.start) left) start (subst IsRising starts_are c.self.invariant.0),
       subst (λ bs. AreMissed bs c.keep.new.self) (left_seen (λ x. x.call.back) c.self.inside.entries.items left c.in_ok-top.top c.len-depth.result c.in_ok-top.ensures.items c.len-depth.ensures)
-      (c.keep.ensures (map (λ x. x.call.back) c.self.inside.entries.items) c.self.invariant.1),
+          (c.keep.ensures (map (λ x. x.call.back) c.self.inside.entries.items) c.self.invariant.1),
     )
 
 pub add-requires-clause-fits : goal.add-requires-clause-fits

@@ -15,11 +15,10 @@ invariant_of-self g c =
     let list_is = ap (λ (s : Stack). s.list) c.self.view_is in
     let long : length starts ≡ length (map look here) =
     length-map c.args.starts.now g.S.Stamp.number_of ∙ c.requires.each ∙ ap length (sym list_is)
-    in
-    (
+    in (
       subst IsRising
-      (sym (starts_seen (λ x. g.S.Stamp.number_of x.start) (λ x. x.sums) c.restart.new.entries.items ∙ ap starts_of c.restart.ensures.list ∙ restarted_starts starts (map look here) long))
-      c.requires.rising,
+          (sym (starts_seen (λ x. g.S.Stamp.number_of x.start) (λ x. x.sums) c.restart.new.entries.items ∙ ap starts_of c.restart.ensures.list ∙ restarted_starts starts (map look here) long))
+          c.requires.rising,
       subst (λ bs. AreMissed bs c.self.inside.missed) (sym (same_through (λ x. x.call) (λ (k : CountedCall). k.back) c.restart.new.entries.items here c.restart.ensures.calls)) c.self.invariant.1,
     )
 

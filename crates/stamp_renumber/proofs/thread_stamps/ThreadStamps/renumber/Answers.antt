@@ -1,4 +1,4 @@
-use Rattle.std.proofs.Common.{map, refl, sym, subst, All}
+use Rattle.std.proofs.Common.{map, sym, subst, All}
 use Rattle.std.specs.Prelude.{Contains}
 use Rattle.shadow_stack.specs.Frames.{starts_of}
 use Rattle.stamp_renumber.specs.Renumbered.{IsThreadRenumbered}

@@ -2,7 +2,7 @@ use Rattle.std.proofs.Common.{◌≡◌, ◌∙◌, length, ap, sym, arith, Some
 use Rattle.std.specs.Option.{option_copied_mut}
 use Rattle.guest_words.specs.ByThread.{value_of}
 use Rattle.stamp_renumber.specs.Counted.{steps_added}
-use Rattle.stamp_renumber.specs.Threads.{Live, Stamped, calls_of}
+use Rattle.stamp_renumber.specs.Threads.{Live, Stamped}
 use Rattle.stamp_renumber.proofs.Changed.{calls_were, changed_calls, kept_changed}
 use Rattle.stamp_renumber.proofs.threads.Threads.add_steps.Goals as goal
 
