@@ -332,6 +332,14 @@ pub item_has : {V B : Type 0} (f : V → List B) (key : B → ℕ) (P : B → Ty
 item_has f key P vs k b at w old place read is all =
     item_in key P (map f vs) k b at old place (is ∙ ap (λ ys. get_or ys at old) (read_block f vs b w (omega (arith, place.block.inside, length-map vs f)) read)) all
 
+-- the item at the place of a key has it
+pub item_key : {V B : Type 0} (f : V → List B) (key : B → ℕ) (vs : List V) (k b at : ℕ) (w : V) (old : B) → IsPlaceOf key (map f vs) k b at → w ≡ get_or vs b w → old ≡ get_or (f w) at old → key old ≡ k
+item_key f key vs k b at w old place read is =
+    let items = get_or (map f vs) b [] in
+    ap key (is ∙ ap (λ ys. get_or ys at old) (read_block f vs b w (omega (arith, place.block.inside, length-map vs f)) read))
+    ∙ sym (get_or-map key items at old 0 (omega (arith, place.here.in_range, length-map items key)))
+    ∙ place.here.here
+
 -- a block of which one item changes
 pub filled_changed : {V B : Type 0} (f : V → List B) (key : B → ℕ) (vs : List V) (k b at : ℕ) (w v : V) (new : B) → IsFilled (map f vs) → IsPlaceOf key (map f vs) k b at → w ≡ get_or vs b w → f v ≡ set (f w) at new → IsFilled (map f (set vs b v))
 filled_changed f key vs k b at w v new filled place read made =

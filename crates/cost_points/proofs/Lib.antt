@@ -8,3 +8,4 @@ pub mod Merged
 pub mod Tables
 pub mod Bounds
 pub mod Small
+mod Tallied

@@ -1,12 +1,13 @@
 //! Items by rising key, in blocks: one more moves the rest of a block, and no other item.
-ghost use Rattle.std.specs.Prelude.{◌≡◌, ◌<◌, ◌≤◌, [], ℕ, get_or, length, map, IfOk, MatchResult, OnErr, OnOk};
+ghost use Rattle.std.specs.Prelude.{◌≡◌, ◌<◌, ◌≤◌, ◌++◌, [], ℕ, false, get_or, length, map, true, IfOk, MatchResult, OnErr, OnOk};
 ghost use Rattle.cost_points.specs.Joined.{IsFilled, joined};
 ghost use Rattle.cost_points.specs.Places.{IsBlockOf, IsGapOf, IsPlaceOf, before};
 ghost use Rattle.cost_points.specs.Private.Blocks.{IsItemAt, cut, with_item};
 ghost use Rattle.cost_points.specs.Keys.{IsRising};
-ghost use Rattle.cost_points.specs.Search.{FindsKey};
+ghost use Rattle.cost_points.specs.Search.{FindsKey, IsAt};
 
 use crate::Point;
+use crate::tally::Tally;
 use std::alloc::{AllocError, Global};
 
 // How many items a block has at most.
@@ -56,8 +57,8 @@ fn block_of<T: Keyed>(blocks: &[Vec<T>], key: u64) -> usize
     low
 }
 
-// Where in a block the key stands, or where it would go.
-fn search_block<T: Keyed>(block: &[T], key: u64) -> Result<usize, usize>
+/// Where in a block the key stands, or where it would go.
+pub(crate) fn search_block<T: Keyed>(block: &[T], key: u64) -> Result<usize, usize>
     requires { IsRising (map T.key_of block.now) }
     ensures { FindsKey (map T.key_of block.now) key result }
 {
@@ -95,6 +96,44 @@ pub(crate) fn find<T: Keyed>(blocks: &[Vec<T>], last: Place, key: u64) -> Result
         }
     }
     search(blocks, key)
+}
+
+// Whether the key stands anywhere; `last` is then its place. It stands apart, so that the code around a search that finds the
+// key at once is short.
+#[cold]
+#[inline(never)]
+fn reach_apart<T: Keyed>(blocks: &[Vec<T>], last: &mut Place, key: u64) -> bool
+    requires filled { IsFilled (map (λ b. b.items) blocks.now) }
+    requires rising { IsRising (map T.key_of (joined (map (λ b. b.items) blocks.now))) }
+    ensures reached { result ≡ true → IsPlaceOf T.key_of (map (λ b. b.items) blocks.now) key last.new.block last.new.at }
+    ensures nowhere { result ≡ false → (at : ℕ)
+        → IsAt (map T.key_of (joined (map (λ b. b.items) blocks.now))) key at → ⊥ }
+{
+    match search(blocks, key) {
+        Ok(place) => {
+            *last = place;
+            true
+        }
+        Err(_) => false,
+    }
+}
+
+/// Whether the key stands anywhere; `last` is then its place. It is tried first.
+#[inline(always)]
+pub(crate) fn reach<T: Keyed>(blocks: &[Vec<T>], last: &mut Place, key: u64) -> bool
+    requires filled { IsFilled (map (λ b. b.items) blocks.now) }
+    requires rising { IsRising (map T.key_of (joined (map (λ b. b.items) blocks.now))) }
+    ensures reached { result ≡ true → IsPlaceOf T.key_of (map (λ b. b.items) blocks.now) key last.new.block last.new.at }
+    ensures nowhere { result ≡ false → (at : ℕ)
+        → IsAt (map T.key_of (joined (map (λ b. b.items) blocks.now))) key at → ⊥ }
+{
+    if last.block < blocks.len() {
+        let block = &blocks[last.block];
+        if last.at < block.len() && block[last.at].key() == key {
+            return true;
+        }
+    }
+    reach_apart(blocks, last, key)
 }
 
 // Cuts a block in two. A refusal changes no item.
@@ -167,13 +206,23 @@ pub(crate) fn insert<T: Drop>(
     Ok(place)
 }
 
-/// All items, by rising key.
-pub(crate) fn items(alloc: Global, blocks: &[Vec<Point>]) -> Result<Vec<Point>, AllocError>
+// The points of one block behind others.
+fn extend(all: &mut Vec<Point>, block: &[Tally]) -> Result<(), AllocError>
+    ensures { OnOk result (all.new.items ≡ all.old.items ++ block.now) }
+{
+    for tally in block {
+        all.push(tally.point())?;
+    }
+    Ok(())
+}
+
+/// All points, by rising size.
+pub(crate) fn items(alloc: Global, blocks: &[Vec<Tally>]) -> Result<Vec<Point>, AllocError>
     ensures { IfOk result (λ all. all.items ≡ joined (map (λ b. b.items) blocks.now)) }
 {
     let mut all = Vec::new(alloc);
     for i in 0..blocks.len() {
-        all.extend_from_slice(&blocks[i])?;
+        extend(&mut all, &blocks[i])?;
     }
     Ok(all)
 }

@@ -1,9 +1,10 @@
 //! Items by their keys, and by their index among all.
-ghost use Rattle.std.specs.Prelude.{◌≡◌, ◌<◌, ◌^◌, [], Some, get_or, length, map, slice_get, IfOk, MatchResult, OnErr, OnOk};
+ghost use Rattle.std.specs.Prelude.{◌≡◌, ◌<◌, ◌^◌, [], ℕ, Some, get_or, length, map, slice_get, IfNone, IfOk, IfSome, MatchResult, OnErr, OnOk};
 ghost use Rattle.std.specs.Borrow.{sem};
 ghost use Rattle.cost_points.specs.Joined.{joined};
 ghost use Rattle.cost_points.specs.Keys.{IsRising, put};
 ghost use Rattle.cost_points.specs.Places.{IsGapOf, IsPlaceOf};
+ghost use Rattle.cost_points.specs.Search.{IsAt};
 
 use crate::blocks::{self, Keyed, Place};
 use crate::indexes;
@@ -33,6 +34,16 @@ impl<T> Model for ByKey<T> {
     ghost invariant = { λ k. AreIndexed (map (λ b. b.items) k.blocks.items) k.count k.starts.items };
 }
 
+// The place becomes another one. Mostly it is that already, and nothing is written.
+#[inline(always)]
+fn note(last: &mut Place, place: Place)
+    ensures { last.new ≡ place }
+{
+    if *last != place {
+        *last = place;
+    }
+}
+
 impl<T> ByKey<T> {
     ghost use Rattle.cost_points.specs.LentItem.{lends_item};
 
@@ -51,7 +62,7 @@ impl<T> ByKey<T> {
         ensures* writes_back { sem 𝓛 (lends_item T.row self.entry place.block place.at result) }
         ensures found { result.now ≡ get_or (get_or self.old place.block []) place.at result.now }
     {
-        self.last = place;
+        note(&mut self.last, place);
         let block = &mut self.blocks[place.block];
         &mut block[place.at]
     }
@@ -100,6 +111,21 @@ impl<T: Keyed + Drop> ByKey<T> {
             (λ p. IsGapOf T.key_of self.now key p.block p.at) }
     {
         blocks::find(&self.blocks, self.last, key)
+    }
+
+    /// Where the key stands, or None. The place of the item that was changed last is tried first.
+    #[inline(always)]
+    pub fn reach(&mut self, key: u64) -> Option<Place>
+        requires { IsRising (map T.key_of (joined self.old)) }
+        ensures reached { IfSome result (λ p. IsPlaceOf T.key_of self.old key p.block p.at) }
+        ensures nowhere { IfNone result ((at : ℕ) → IsAt (map T.key_of (joined self.old)) key at → ⊥) }
+        ensures same { self.new ≡ self.old }
+    {
+        if blocks::reach(&self.blocks, &mut self.last, key) {
+            Some(self.last)
+        } else {
+            None
+        }
     }
 
     /// One item more, at the place where its key would go, and where it stands then. A refusal changes no item.

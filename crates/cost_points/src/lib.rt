@@ -12,6 +12,7 @@ mod routine;
 mod routines;
 mod sorted;
 mod table;
+mod tally;
 
 pub use blocks::{Keyed, Place};
 pub use by_key::ByKey;

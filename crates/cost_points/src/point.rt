@@ -41,8 +41,16 @@ impl Split {
         }
     }
 
-    // The parts with those of others.
-    fn plus(self, other: Split) -> Split
+    /// The parts of no activation.
+    pub(crate) const NONE: Split = Split {
+        plain: 0,
+        thread: 0,
+        kernel: 0,
+        bare: 0,
+    };
+
+    /// The parts with those of others.
+    pub(crate) fn plus(self, other: Split) -> Split
         requires own { HasSplitRoom self }
         requires others { HasSplitRoom other }
         ensures { result ≡ split_sum self other }
@@ -57,9 +65,9 @@ impl Split {
 }
 
 impl Split {
-    // The parts with those of one more activation.
+    /// The parts with those of one more activation.
     #[inline(always)]
-    fn add_one(&mut self, ended: &Done)
+    pub(crate) fn add_one(&mut self, ended: &Done)
         requires { HasSplitRoom self.old }
         ensures { self.new ≡ split_sum self.old (split_of (ended.now ∷ [])) }
     {
@@ -111,22 +119,6 @@ impl Point {
             most: self.most.max(other.most),
             sum: self.sum + other.sum,
             split: self.split_with(other),
-        }
-    }
-
-    /// Takes in one more activation of its size, in its place.
-    #[inline(always)]
-    pub(crate) fn add_one(&mut self, ended: &Done)
-        requires { HasRoom self.old }
-        ensures { self.new ≡ merged self.old (point_of ended.now.size (ended.now ∷ [])) }
-    {
-        let cost = ended.cost;
-        self.calls += 1;
-        self.least = self.least.min(cost);
-        self.most = self.most.max(cost);
-        self.sum += u128::from(cost);
-        if let Some(split) = &mut self.split {
-            split.add_one(ended);
         }
     }
 }

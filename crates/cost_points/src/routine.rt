@@ -1,6 +1,7 @@
 //! The points of one routine.
 ghost use Rattle.std.specs.Prelude.{◌≡◌, [], ◌∷◌, ℕ, false, map, true, IfOk, IsOk, OnOk, OnErr};
 ghost use Rattle.std.specs.List.{All};
+ghost use Rattle.trace_model.specs.Profile.{HasParts};
 ghost use Rattle.cost_points.specs.Keys.{IsRising};
 ghost use Rattle.cost_points.specs.Merging.{point_added};
 ghost use Rattle.cost_points.specs.Search.{HasRoom, IsAt};
@@ -64,8 +65,10 @@ impl RoutinePoints {
     }
 
     /// One more activation of the routine, where it has a point of that size, and true; else false, and nothing changes.
+    #[tactic(auto, using(crate::proofs::Tallied::own_by_parts))]
     #[inline(always)]
     pub fn add_known(&mut self, ended: &Done) -> bool
+        requires parts { HasParts ended.now }
         requires rising { IsRising (map (λ p. p.size) self.old.points) }
         requires room { All HasRoom self.old.points }
         ensures added { result ≡ true → self.new ≡ point_added
@@ -74,7 +77,8 @@ impl RoutinePoints {
         ensures known { (place : ℕ) → IsAt (map (λ p. p.size) self.old.points) ended.now.size place
             → result ≡ true }
     {
-        self.points.add_known(ended)
+        let own = ended.plain == ended.size; // the parts add up to the size
+        self.points.add_known_as(ended, own)
     }
 
     /// The points, by rising size.

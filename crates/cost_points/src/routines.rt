@@ -1,6 +1,7 @@
 //! Routines by rising entry.
 ghost use Rattle.std.specs.Prelude.{◌≡◌, ◌<◌, ◌^◌, [], ◌∷◌, ℕ, Some, false, length, map, slice_get, true, IsOk, OnErr, OnOk};
 ghost use Rattle.std.specs.List.{All};
+ghost use Rattle.trace_model.specs.Profile.{HasParts};
 ghost use Rattle.cost_points.specs.Joined.{joined};
 ghost use Rattle.cost_points.specs.Keys.{IsRising};
 ghost use Rattle.cost_points.specs.Merging.{with_point};
@@ -54,6 +55,7 @@ pub(crate) fn add_one(
 /// One more activation, where its routine has a point of its size, and true; else false, and no routine changes.
 #[inline(always)]
 pub(crate) fn add_known(routines: &mut ByKey<RoutinePoints>, ended: &Done) -> bool
+    requires parts { HasParts ended.now }
     requires profile { IsProfile (joined routines.old) }
     requires room { All (λ r. All HasRoom r.points) (joined routines.old) }
     ensures added { result ≡ true → joined routines.new
@@ -64,12 +66,12 @@ pub(crate) fn add_known(routines: &mut ByKey<RoutinePoints>, ended: &Done) -> bo
         → r.entry ≡ ended.now.entry → IsAt (map (λ p. p.size) r.points) ended.now.size place
         → result ≡ true }
 {
-    match routines.find(u64::from(ended.entry)) {
-        Ok(place) => {
+    match routines.reach(u64::from(ended.entry)) {
+        Some(place) => {
             let routine = routines.at_mut(place);
             routine.add_known(ended)
         }
-        Err(_) => false,
+        None => false,
     }
 }
 

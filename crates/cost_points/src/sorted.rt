@@ -7,10 +7,12 @@ ghost use Rattle.cost_points.specs.Places.{IsGapOf};
 ghost use Rattle.cost_points.specs.Keys.{IsRising, put};
 ghost use Rattle.cost_points.specs.Merging.{merged};
 ghost use Rattle.cost_points.specs.Points.{point_of};
-ghost use Rattle.cost_points.specs.Search.{FindsKey, HasRoom, IsAt};
+ghost use Rattle.cost_points.specs.Search.{HasRoom, IsAt};
+ghost use Rattle.cost_points.specs.Private.Tallies.{is_own};
 
 use crate::Point;
 use crate::blocks::{self, Keyed, Place};
+use crate::tally::{self, Tally};
 use std::alloc::{AllocError, Global};
 use std::marker::Model;
 use trace_model::Done;
@@ -19,7 +21,7 @@ use trace_model::Done;
 /// them as a list.
 #[derive(Drop)]
 pub struct SortedPoints {
-    points: Vec<Vec<Point>>,
+    points: Vec<Vec<Tally>>,
     // The place of the point that was changed last.
     last: Place,
 }
@@ -45,12 +47,13 @@ impl Keyed for Point {
     }
 }
 
-// Where the point of the size is, or where it would go.
-fn search(points: &[Point], size: u64) -> Result<usize, usize>
-    requires { IsRising (map (λ p. p.size) points.now) }
-    ensures { FindsKey (map (λ p. p.size) points.now) size result }
-{
-    points.binary_search_by_key(&size, |point| point.size)
+impl Keyed for Tally {
+    ghost key_of = { λ p. p.size };
+
+    #[inline(always)]
+    fn key(&self) -> u64 {
+        self.size()
+    }
 }
 
 /// One more point among points whose sizes rise: the one of its size takes it in, and where there is none it is a new one.
@@ -63,7 +66,7 @@ pub fn insert_point(points: &mut Vec<Point>, point: Point)
     ensures { points.new.items ≡ put (λ q. q.size) point.size
         (λ q. merged q point) point points.old.items }
 {
-    match search(points, point.size) {
+    match blocks::search_block(points, point.size) {
         Ok(at) => points[at] = points[at].merged(point),
         Err(at) => {
             points.insert(at, point).unwrap();
@@ -72,7 +75,7 @@ pub fn insert_point(points: &mut Vec<Point>, point: Point)
 }
 
 // One more point among blocks of points, the last of which was changed at a place.
-fn add_to(points: &mut Vec<Vec<Point>>, last: &mut Place, point: Point) -> Result<(), AllocError>
+fn add_to(points: &mut Vec<Vec<Tally>>, last: &mut Place, point: Point) -> Result<(), AllocError>
     requires filled { IsFilled (map (λ b. b.items) points.old.items) }
     requires rising { IsRising (map (λ p. p.size) (joined (map (λ b. b.items) points.old.items))) }
     requires room { All HasRoom (joined (map (λ b. b.items) points.old.items)) }
@@ -90,11 +93,12 @@ fn add_to(points: &mut Vec<Vec<Point>>, last: &mut Place, point: Point) -> Resul
         Ok(place) => {
             *last = place;
             let block = &mut points[place.block];
-            block[place.at] = block[place.at].merged(point);
+            let tally = &mut block[place.at];
+            tally.add(point);
             Ok(())
         }
         Err(place) => {
-            *last = blocks::insert(points, place, point)?;
+            *last = blocks::insert(points, place, Tally::of_point(point))?;
             Ok(())
         }
     }
@@ -102,7 +106,7 @@ fn add_to(points: &mut Vec<Vec<Point>>, last: &mut Place, point: Point) -> Resul
 
 // One more activation among blocks of points, the last of which was changed at a place.
 #[inline(always)]
-fn add_one(points: &mut Vec<Vec<Point>>, last: &mut Place, ended: &Done) -> Result<(), AllocError>
+fn add_one(points: &mut Vec<Vec<Tally>>, last: &mut Place, ended: &Done) -> Result<(), AllocError>
     requires filled { IsFilled (map (λ b. b.items) points.old.items) }
     requires rising { IsRising (map (λ p. p.size) (joined (map (λ b. b.items) points.old.items))) }
     requires room { All HasRoom (joined (map (λ b. b.items) points.old.items)) }
@@ -119,17 +123,19 @@ fn add_one(points: &mut Vec<Vec<Point>>, last: &mut Place, ended: &Done) -> Resu
         Ok(place) => {
             *last = place;
             let block = &mut points[place.block];
-            let point = &mut block[place.at];
-            point.add_one(ended);
+            let tally = &mut block[place.at];
+            tally.add_one(ended);
             Ok(())
         }
-        Err(place) => add_size(points, last, place, ended),
+        Err(place) => add_size(points, last, place, *ended),
     }
 }
 
-// One more activation among blocks of points, where they have one of its size, and true; else false.
+// One more activation among blocks of points, where they have one of its size, and true; else false. `own` is true only if the
+// activation has no part but its size.
 #[inline(always)]
-fn add_known(points: &mut Vec<Vec<Point>>, last: &mut Place, ended: &Done) -> bool
+fn add_known(points: &mut Vec<Vec<Tally>>, last: &mut Place, ended: &Done, own: bool) -> bool
+    requires own { own ≡ true → is_own ended.now ≡ true }
     requires filled { IsFilled (map (λ b. b.items) points.old.items) }
     requires rising { IsRising (map (λ p. p.size) (joined (map (λ b. b.items) points.old.items))) }
     requires room { All HasRoom (joined (map (λ b. b.items) points.old.items)) }
@@ -142,37 +148,34 @@ fn add_known(points: &mut Vec<Vec<Point>>, last: &mut Place, ended: &Done) -> bo
     ensures known { (place : ℕ) → IsAt (map (λ p. p.size) (joined (map (λ b. b.items) points.old.items)))
         ended.now.size place → result ≡ true }
 {
-    match blocks::find(points, *last, ended.size) {
-        Ok(place) => {
-            *last = place;
-            let block = &mut points[place.block];
-            let point = &mut block[place.at];
-            point.add_one(ended);
-            true
-        }
-        Err(_) => false,
+    if blocks::reach(points, last, ended.size) {
+        let block = &mut points[last.block];
+        let tally = &mut block[last.at];
+        tally.take_in(ended, own);
+        return true;
     }
+    false
 }
 
 // The first activation of its size: a new point at its place.
 #[cold]
 #[inline(never)]
 fn add_size(
-    points: &mut Vec<Vec<Point>>,
+    points: &mut Vec<Vec<Tally>>,
     last: &mut Place,
     place: Place,
-    ended: &Done,
+    ended: Done,
 ) -> Result<(), AllocError>
     requires filled { IsFilled (map (λ b. b.items) points.old.items) }
-    requires gap { IsGapOf (λ p. p.size) (map (λ b. b.items) points.old.items) ended.now.size place.block place.at }
+    requires gap { IsGapOf (λ p. p.size) (map (λ b. b.items) points.old.items) ended.size place.block place.at }
     ensures ok { OnOk result (joined (map (λ b. b.items) points.new.items)
-        ≡ put (λ q. q.size) ended.now.size (λ q. merged q (point_of ended.now.size (ended.now ∷ [])))
-        (point_of ended.now.size (ended.now ∷ [])) (joined (map (λ b. b.items) points.old.items))) }
+        ≡ put (λ q. q.size) ended.size (λ q. merged q (point_of ended.size (ended ∷ [])))
+        (point_of ended.size (ended ∷ [])) (joined (map (λ b. b.items) points.old.items))) }
     ensures err { OnErr result (joined (map (λ b. b.items) points.new.items)
         ≡ joined (map (λ b. b.items) points.old.items)) }
     ensures filled { IsFilled (map (λ b. b.items) points.new.items) }
 {
-    *last = blocks::insert(points, place, Point::of_one(*ended))?;
+    *last = blocks::insert(points, place, Tally::of_point(Point::of_one(ended)))?;
     Ok(())
 }
 
@@ -182,7 +185,7 @@ impl SortedPoints {
         ensures { IfOk result (λ s. s ≡ point ∷ []) }
     {
         let mut block = Vec::new(alloc);
-        block.push(point)?;
+        block.push(Tally::of_point(point))?;
         let mut points = Vec::new(alloc);
         points.push(block)?;
         Ok(SortedPoints {
@@ -226,7 +229,21 @@ impl SortedPoints {
         ensures same { result ≡ false → self.new ≡ self.old }
         ensures known { (place : ℕ) → IsAt (map (λ p. p.size) self.old) ended.now.size place → result ≡ true }
     {
-        add_known(&mut self.points, &mut self.last, ended)
+        self.add_known_as(ended, tally::is_own(ended))
+    }
+
+    /// The same, where the parts of the activation need not all be read: `own` is true only if it has none but its size.
+    #[inline(always)]
+    pub(crate) fn add_known_as(&mut self, ended: &Done, own: bool) -> bool
+        requires own { own ≡ true → is_own ended.now ≡ true }
+        requires rising { IsRising (map (λ p. p.size) self.old) }
+        requires room { All HasRoom self.old }
+        ensures added { result ≡ true → self.new ≡ put (λ q. q.size) ended.now.size (λ q. merged q (point_of ended.now.size (ended.now ∷ [])))
+            (point_of ended.now.size (ended.now ∷ [])) self.old }
+        ensures same { result ≡ false → self.new ≡ self.old }
+        ensures known { (place : ℕ) → IsAt (map (λ p. p.size) self.old) ended.now.size place → result ≡ true }
+    {
+        add_known(&mut self.points, &mut self.last, ended, own)
     }
 
     /// The points, by rising size.
