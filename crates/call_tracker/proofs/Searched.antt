@@ -8,7 +8,7 @@ use Rattle.std.proofs.lemmas.List.{length-append, length-map, length-take, drop-
 use Rattle.trace_model.specs.Activations.{count_returned, is_back}
 use Rattle.call_tracker.specs.declared.missed.Miss.{Miss}
 use Rattle.call_tracker.specs.declared.missed.Missed.{Missed}
-use Rattle.call_tracker.specs.Private.Missed.{AreMissed, IsMissed}
+use Rattle.call_tracker.specs.Missed.{AreMissed, IsMissed}
 
 -- a count, one call further out
 abbrev one_out : ℕ → ℕ

@@ -1,5 +1,5 @@
 pub mod Links
 pub mod Calls
 pub mod CallStacks
+pub mod Missed
 pub mod ThreadCalls
-pub mod Private

@@ -16,8 +16,7 @@ pub record CountedCall : Type 0 where
   pub back : Option ℕ
   pub earlier : Counts
 
--- The open calls, the innermost first; the thread's counts; and how many more calls can begin without allocating.
+-- The open calls, the innermost first, and the thread's counts.
 pub record Calls : Type 0 where
   pub list : List CountedCall
   pub counts : Counts
-  pub spare : ℕ

@@ -1,7 +1,10 @@
 //! Targets of returns that no open call has.
-ghost use Rattle.std.specs.Prelude.{◌≡◌, ◌<◌, ◌≤◌, [], ℕ, All, List, Option, length, take};
-ghost use Rattle.call_tracker.specs.Private.Missed.{AreMissed, IsMissed};
+ghost use Rattle.std.specs.Prelude.{◌≡◌, ◌<◌, ◌≤◌, [], ℕ, All, List, Option, length, map, reverse, take};
+ghost use Rattle.trace_model.specs.Activations.{count_returned};
+ghost use Rattle.call_tracker.specs.Missed.{AreMissed, IsMissed};
 
+use crate::Returns;
+use crate::returns::{count_returned, top_returns_to};
 use guest_words::Addr;
 
 // How many targets are remembered.
@@ -15,9 +18,9 @@ pub(crate) struct Miss {
 }
 
 /// The targets of the last searches that found no call, each at the place that its address gives. Of calls that began since,
-/// nothing is known.
+/// nothing is known. It stands beside the open calls of a thread, which their owner keeps, the outermost first.
 #[derive(Clone, Copy)]
-pub(crate) struct Missed {
+pub struct Missed {
     places: [Miss; PLACES],
     // The fewest calls that were open since the last of these searches.
     low: usize,
@@ -32,7 +35,7 @@ fn place_of(target: Addr) -> usize
 
 impl Missed {
     /// Nothing is known.
-    pub(crate) fn nothing() -> Missed
+    pub fn nothing() -> Missed
         ensures { AreMissed [] result }
     {
         let unknown = Miss {
@@ -45,8 +48,40 @@ impl Missed {
         }
     }
 
-    /// How many of the outermost calls are known not to return to the target.
-    pub(crate) fn depth_of(&self, target: Addr) -> usize
+    /// How many of the open calls a return to the target ends: the innermost with that return address and all that it holds, and
+    /// none where no call has it, which is remembered. Mostly it is the innermost of all, which is looked at first.
+    #[inline(always)]
+    pub fn ending<C: Returns>(&mut self, target: Addr, calls: &[C]) -> usize
+        requires { AreMissed (map C.back_of calls.now) self.old }
+        ensures count { result ≡ count_returned target (map C.back_of (reverse calls.now)) }
+        ensures within { result ≤ length calls.now }
+        ensures missed { AreMissed (map C.back_of calls.now) self.new }
+    {
+        if top_returns_to(target, calls) {
+            return 1;
+        }
+        self.search(target, calls)
+    }
+
+    // The same, for a target that need not be the innermost call's.
+    #[cold]
+    #[inline(never)]
+    fn search<C: Returns>(&mut self, target: Addr, calls: &[C]) -> usize
+        requires { AreMissed (map C.back_of calls.now) self.old }
+        ensures count { result ≡ count_returned target (map C.back_of (reverse calls.now)) }
+        ensures within { result ≤ length calls.now }
+        ensures missed { AreMissed (map C.back_of calls.now) self.new }
+    {
+        let missed = self.depth_of(target);
+        let ended = count_returned(target, &calls[missed..]);
+        if ended == 0 {
+            self.remember(target, calls.len());
+        }
+        ended
+    }
+
+    // How many of the outermost calls are known not to return to the target.
+    fn depth_of(&self, target: Addr) -> usize
         ensures within { result ≤ self.now.low }
         ensures missed { (backs : List (Option ℕ)) → AreMissed backs self.now
             → IsMissed backs target result }
@@ -76,9 +111,9 @@ impl Missed {
         }
     }
 
-    /// Remembers that none of the `depth` open calls returns to the target.
+    // Remembers that none of the `depth` open calls returns to the target.
     #[cold]
-    pub(crate) fn remember(&mut self, target: Addr, depth: usize)
+    fn remember(&mut self, target: Addr, depth: usize)
         ensures { (backs : List (Option ℕ)) → AreMissed backs self.old → length backs ≡ depth
             → IsMissed backs target depth → AreMissed backs self.new }
     {
@@ -89,7 +124,7 @@ impl Missed {
 
     /// Calls ended, and `depth` are left.
     #[inline(always)]
-    pub(crate) fn keep(&mut self, depth: usize)
+    pub fn keep(&mut self, depth: usize)
         ensures { (backs : List (Option ℕ)) → AreMissed backs self.old
             → AreMissed (take depth backs) self.new }
     {

@@ -1,10 +1,8 @@
 //! The open calls of a thread.
-ghost use Rattle.std.specs.Prelude.{◌≡◌, ◌+◌, ◌-◌, ◌≤◌, ◌++◌, ◌∷◌, [], length, map, slice_get, take, nat_lt, reverse, true, IfNone, IfOk, IfSome, IsOk, OnOk, OnErr};
+ghost use Rattle.std.specs.Prelude.{◌≡◌, ◌+◌, ◌-◌, ◌≤◌, ◌++◌, ◌∷◌, [], length, map, slice_get, take, nat_lt, reverse, IfNone, IfOk, IfSome, IsOk, OnOk, OnErr};
 ghost use Rattle.trace_model.specs.Activations.{count_returned};
 
-use crate::Returns;
-use crate::missed::Missed;
-use crate::returns::count_returned;
+use crate::{Missed, Returns};
 use guest_words::Addr;
 use room_stack::RoomStack;
 use std::alloc::{AllocError, Global};
@@ -41,7 +39,7 @@ pub struct OpenCalls<C: Returns> {
 impl<C: Returns> Model for OpenCalls<C> {
     ghost use Rattle.std.specs.Prelude.{map};
     ghost use Rattle.call_tracker.specs.Calls.{CallStack, stack_code};
-    ghost use Rattle.call_tracker.specs.Private.Missed.{AreMissed};
+    ghost use Rattle.call_tracker.specs.Missed.{AreMissed};
 
     ghost Value = { CallStack C };
 
@@ -108,46 +106,15 @@ impl<C: Returns> OpenCalls<C> {
         self.calls.has_room()
     }
 
-    // Whether the innermost call returns to the target.
-    #[inline(always)]
-    fn top_returns_to(&self, target: Addr) -> bool
-        ensures { result ≡ true
-            → count_returned target (map C.back_of (reverse self.now.calls)) ≡ 1 }
-    {
-        match self.calls.as_slice().last() {
-            Some(call) => call.back() == Some(target),
-            None => false,
-        }
-    }
-
     /// How many calls a return to the target ends: the innermost with that return address and all that it holds, and
-    /// none where no call has it, which is remembered. Mostly it is the innermost of all, which is looked at first.
+    /// none where no call has it.
     #[inline(always)]
     pub fn ending(&mut self, target: Addr) -> usize
         ensures count { result ≡ count_returned target (map C.back_of (reverse self.old.calls)) }
         ensures within { result ≤ length self.old.calls }
         ensures same { self.new ≡ self.old }
     {
-        if self.top_returns_to(target) {
-            return 1;
-        }
-        self.search(target)
-    }
-
-    // The same, for a target that need not be the innermost call's.
-    #[cold]
-    #[inline(never)]
-    fn search(&mut self, target: Addr) -> usize
-        ensures count { result ≡ count_returned target (map C.back_of (reverse self.old.calls)) }
-        ensures within { result ≤ length self.old.calls }
-        ensures same { self.new ≡ self.old }
-    {
-        let missed = self.missed.depth_of(target);
-        let ended = count_returned(target, &self.calls.as_slice()[missed..]);
-        if ended == 0 {
-            self.missed.remember(target, self.calls.len());
-        }
-        ended
+        self.missed.ending(target, self.calls.as_slice())
     }
 
     // Ends `ended` calls, the innermost first.

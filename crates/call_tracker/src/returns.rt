@@ -1,5 +1,5 @@
 //! How many open calls a return ends.
-ghost use Rattle.std.specs.Prelude.{◌≡◌, ◌≤◌, ℕ, Option, length, map, reverse};
+ghost use Rattle.std.specs.Prelude.{◌≡◌, ◌≤◌, ℕ, Option, length, map, reverse, true};
 ghost use Rattle.trace_model.specs.Activations.{count_returned};
 
 use guest_words::Addr;
@@ -12,6 +12,18 @@ pub trait Returns: Copy {
     /// Its return address, which the first routine of a thread does not have.
     fn back(&self) -> Option<Addr>
         ensures { result ≡ back_of self.now };
+}
+
+/// Whether the innermost of the calls, the last, returns to the target.
+#[inline(always)]
+pub(crate) fn top_returns_to<C: Returns>(target: Addr, calls: &[C]) -> bool
+    ensures some { result ≡ true → 1 ≤ length calls.now }
+    ensures one { result ≡ true → count_returned target (map C.back_of (reverse calls.now)) ≡ 1 }
+{
+    match calls.last() {
+        Some(call) => call.back() == Some(target),
+        None => false,
+    }
 }
 
 /// How many of the calls, the outermost first, a return to the target ends.

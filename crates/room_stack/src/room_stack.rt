@@ -1,5 +1,6 @@
 //! The stack.
-ghost use Rattle.std.specs.Prelude.{◌≡◌, ◌+◌, ◌-◌, ◌<◌, ◌≤◌, ◌++◌, ◌∷◌, [], length, nat_lt, slice_set, take, IfNone, OnErr, OnOk, IsOk};
+ghost use Rattle.std.specs.Prelude.{◌≡◌, ◌+◌, ◌-◌, ◌<◌, ◌≤◌, ◌++◌, ◌∷◌, [], length, nat_lt, slice_get, slice_set, take, Some, IfNone, OnErr, OnOk, IsOk};
+ghost use Rattle.std.specs.Borrow.{sem};
 ghost use Rattle.std.specs.Option.{option_to_list};
 ghost use Rattle.std.specs.Vec.{vec_capacity};
 
@@ -46,6 +47,8 @@ fn push_behind<T: Copy>(items: &mut Vec<T>, item: T) -> Result<(), AllocError>
 }
 
 impl<T: Copy> RoomStack<T> {
+    ghost use Rattle.room_stack.specs.LentItem.{lends_item};
+
     /// No item.
     pub fn new(alloc: Global) -> RoomStack<T>
         ensures { result.items ≡ [] }
@@ -137,5 +140,15 @@ impl<T: Copy> RoomStack<T> {
         ensures kept { self.new.spare ≡ self.old.spare }
     {
         self.items[i] = item;
+    }
+
+    /// The item at a place, for writing.
+    #[inline(always)]
+    pub fn at_mut(&mut self, i: usize) -> &mut T
+        requires { i < length self.old.items }
+        ensures* writes_back { sem 𝓛 (lends_item T.row self.entry i result) }
+        ensures value { slice_get self.old.items i ≡ Some result.now }
+    {
+        &mut self.items[i]
     }
 }

@@ -37,7 +37,7 @@ pub its_pages : (threads : List (ℕ × Stamped)) (t : ℕ) (was : Stamped) → 
 its_pages threads t was here = ap (λ (o : Option Stamped). option_map_or (λ (s : Stamped). s.pages) o []) here
 
 pub its_calls : (threads : List (ℕ × Stamped)) (t : ℕ) (was : Stamped) → value_of threads t ≡ Some was → calls_of threads t ≡ was.calls
-its_calls threads t was here = ap (λ (o : Option Stamped). option_map_or (λ (s : Stamped). s.calls) o (record { list = []; counts = no_counts; spare = 0 })) here
+its_calls threads t was here = ap (λ (o : Option Stamped). option_map_or (λ (s : Stamped). s.calls) o (record { list = []; counts = no_counts })) here
 
 -- More pages for the thread change nothing.
 pub own_room : (s : State) (t : ℕ) (was : Stamped) (live : Live) → Has s t was →

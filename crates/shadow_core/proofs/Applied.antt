@@ -120,7 +120,7 @@ calls_as (x ∷ live) t thread is = by (x.0 == t) is (calls_as live t thread)
   where
     by : (b : Bool) → cond b (Some (as_thread x.1)) (value_of (as_threads live) t) ≡ Some thread →
         (value_of (as_threads live) t ≡ Some thread → thread.calls ≡ (calls_of live t).list) →
-        thread.calls ≡ (option_map_or (λ (s : Stamped). s.calls) (cond b (Some x.1) (value_of live t)) (record { list = []; counts = no_counts; spare = 0 })).list
+        thread.calls ≡ (option_map_or (λ (s : Stamped). s.calls) (cond b (Some x.1) (value_of live t)) (record { list = []; counts = no_counts })).list
     by true found later = let own : as_thread x.1 ≡ thread = cc in sym (ap (λ (th : Thread). th.calls) own)
     by false found later = later found
 

@@ -97,8 +97,7 @@ module _ (most t : ℕ) (s : State) (was : Stamped) (more : Live) (new : Clock) 
   begin_room room =
       let found = step.each t roomed (stamped_is_there s more t was roomed has roomy.threads).stamps in
       let spare : spare_of new.live.threads t ≡ spare_of more.threads t = ap (λ (o : Option Stamped). option_map_or (λ (x : Stamped). x.spare) o 0) found.1 ∙ found.2.spare in
-      let calls : calls_of new.live.threads t ≡ calls_of more.threads t = its_calls new.live.threads t found.0 found.1 ∙ found.2.calls in
-      (omega (arith, room.0, spare), omega (arith, room.1, ap (λ (k : Calls). k.spare) calls), omega (arith, room.2, step.marks))
+      (omega (arith, room.0, spare), omega (arith, room.1, step.marks))
 
   pub called : (entry back start : ℕ) (live : Live) → start ≡ new.counter →
       live.threads ≡ with_value new.live.threads t (stamped live.threads t (frames_of new.live.threads t ++ new_frame start ∷ []) (pages_of new.live.threads t)) →

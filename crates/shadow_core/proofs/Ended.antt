@@ -11,10 +11,8 @@ use Rattle.trace_model.specs.Activations.{open_calls}
 use Rattle.trace_model.specs.Observing.{MayTake}
 use Rattle.trace_model.specs.WellFormed.{is_live, weight}
 use Rattle.shadow_stack.specs.Frames.{FitsPop, Frame}
-use Rattle.stamp_renumber.specs.LentThread.{with_calls}
 use Rattle.stamp_renumber.specs.Threads.{Live, Stamped, calls_of, frames_of, pages_of, stamped}
 use Rattle.stamp_renumber.specs.Returned.{returned_by}
-use Rattle.stamp_renumber.proofs.Changed.{unchanged}
 use Rattle.stamp_table.specs.Allows.{AreWithin}
 use Rattle.shadow_core.specs.Private.Ending.{IsEnded}
 use Rattle.stamp_table.specs.Frames.{frames_after_pops}
@@ -119,10 +117,7 @@ module _ (t target n : ℕ) (s : State) (live : Live) (done more : List Done) (m
 pub may_pop : (live : Live) (t : ℕ) → MayEndIn live t → FitsPop (frames_of live.threads t)
 may_pop live t can = fits_pop (frames_of live.threads t) (sums_left t 0 0 live live [] [] can.lives (none_ended t live [] can.lives) can.sums)
 
--- ---- The calls of a thread, lent and not changed.
-pub same_calls : (live : Live) (t : ℕ) (k : Calls) → is_some (value_of live.threads t) ≡ true → k ≡ calls_of live.threads t → with_calls live t k ≡ live
-same_calls live t k lives same = ap (with_calls live t) same ∙ (λ i. record live { threads = sym (unchanged live.threads t lives) i })
-
+-- ---- Threads that did not change.
 pub as_before : (s old : State) → s ≡ old → (live : Live) → live ≡ s.live → record s { live = live } ≡ old
 as_before s old is live same = ap (λ (l : Live). record s { live = l }) same ∙ is
 

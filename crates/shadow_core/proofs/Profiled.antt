@@ -8,7 +8,7 @@ use Rattle.trace_model.specs.declared.event_kinds.Event.TheVariants.{Step}
 use Rattle.trace_model.specs.Observing.{MayTake}
 use Rattle.trace_model.specs.WellFormed.{is_live, last_step, weight, weight_of}
 use Rattle.call_tracker.specs.ThreadCalls.{Calls}
-use Rattle.stamp_renumber.specs.LentThread.{with_calls}
+use Rattle.stamp_renumber.specs.Counted.{steps_added, with_calls}
 use Rattle.stamp_renumber.specs.Threads.{Live, Stamped, all_starts, calls_of, frames_of, pages_of, spare_of}
 use Rattle.stamp_table.specs.Ticks.{is_switch, ticks, table_after}
 use Rattle.stamp_table.specs.Renewal.{bounded_tick}
@@ -110,24 +110,20 @@ few_steps s t past was agrees light has =
     let counts = counts_stay_within (table_of_state s) past t (as_thread was) agrees (thread_is_told s t was has) in
     omega (arith, counts.0, light)
 
--- the calls with one step more
-abbrev pub one_step : Calls → Calls
-one_step c = record c { counts = record c.counts { steps = c.counts.steps + 1 } }
-
-pub step_made : (most t : ℕ) (s : State) (was : Stamped) (after : Calls) (new : Clock) → Has s t was → IsAdvanced most (is_switch s.last t) (clock_of s) new →
-    after ≡ one_step (calls_of new.live.threads t) →
-    table_of_state (record (with_clock new s) { live = with_calls new.live t after; last = Some t; weight = s.weight + 1 })
+pub step_made : (most t : ℕ) (s : State) (was : Stamped) (live : Live) (new : Clock) → Has s t was → IsAdvanced most (is_switch s.last t) (clock_of s) new →
+    live ≡ with_calls new.live t (steps_added 1 (calls_of new.live.threads t)) →
+    table_of_state (record (with_clock new s) { live = live; last = Some t; weight = s.weight + 1 })
     ≡ table_after (bounded_tick most) (Step t) (table_of_state s)
-step_made most t s was after new has step more =
+step_made most t s was live new has step counted =
     let now = with_clock new s in
-    let live = with_calls new.live t after in
     let here = has_after most (is_switch s.last t) s t was (clock_of s) new step refl has in
     let threads = new.live.threads in
+    let after = steps_added 1 (calls_of threads t) in
     let is : Stamped = record { frames = frames_of threads t; spare = spare_of threads t; pages = pages_of threads t; calls = after } in
     let own = its_calls threads t here.0 here.1.stamps in
     event_is_made most (Step t) s now (record now { live = live; last = Some t }) (step.table s)
-    (steps_by_parts now t live here.0 is here.1 refl (its_frames threads t here.0 here.1.stamps) (its_pages threads t here.0 here.1.stamps)
-    (ap (λ (k : Calls). k.list) (more ∙ ap one_step own)) (ap (λ (k : Calls). k.counts) (more ∙ ap one_step own)))
+    (steps_by_parts now t live here.0 is here.1 (ap (λ (l : Live). l.threads) counted) (its_frames threads t here.0 here.1.stamps) (its_pages threads t here.0 here.1.stamps)
+    (ap (λ (k : Calls). k.list) (ap (steps_added 1) own)) (ap (λ (k : Calls). k.counts) (ap (steps_added 1) own)))
 
 -- ---- What the code finds.
 pub alive_for_step : (most t : ℕ) (s : State) → MayTake (StandsFor most) s (Step t) → IsAlive s t
@@ -142,22 +138,22 @@ lives_after most t b s new may step =
     ap is_some here.1.stamps
 
 -- and a step more can be counted
-pub step_fits : (most t : ℕ) (ticks : Bool) (s : State) (lent : Calls) (new : Clock) → MayTake (StandsFor most) s (Step t) → IsAdvanced most ticks (clock_of s) new →
-    lent ≡ calls_of new.live.threads t → lent.counts.steps + 1 < 2 ^ 64
-step_fits most t b s lent new may step is =
+pub step_fits : (most t : ℕ) (ticks : Bool) (s : State) (new : Clock) → MayTake (StandsFor most) s (Step t) → IsAdvanced most ticks (clock_of s) new →
+    (calls_of new.live.threads t).counts.steps + 1 < 2 ^ 64
+step_fits most t b s new may step =
     let a = alive_for_step most t s may in
     let here = has_after most b s t a.was (clock_of s) new step refl a.has in
-    let own : lent ≡ a.was.calls = is ∙ its_calls new.live.threads t here.0 here.1.stamps ∙ here.2 in
+    let own : calls_of new.live.threads t ≡ a.was.calls = its_calls new.live.threads t here.0 here.1.stamps ∙ here.2 in
     let few = few_steps s t may.past a.was may.now.agrees (omega (arith, may.formed.1)) a.has in
     omega (arith, few, ap (λ (k : Calls). k.counts.steps) own)
 
-pub stepped : (most t : ℕ) (ticks : Bool) (s : State) (lent after : Calls) (new : Clock) → MayTake (StandsFor most) s (Step t) →
-    ticks ≡ is_switch s.last t → IsAdvanced most ticks (clock_of s) new → lent ≡ calls_of new.live.threads t → after ≡ one_step lent →
-    table_of_state (record (with_clock new s) { live = with_calls new.live t after; last = Some t; weight = s.weight + 1 })
+pub stepped : (most t : ℕ) (ticks : Bool) (s : State) (live : Live) (new : Clock) → MayTake (StandsFor most) s (Step t) →
+    ticks ≡ is_switch s.last t → IsAdvanced most ticks (clock_of s) new → live ≡ with_calls new.live t (steps_added 1 (calls_of new.live.threads t)) →
+    table_of_state (record (with_clock new s) { live = live; last = Some t; weight = s.weight + 1 })
     ≡ table_after (bounded_tick most) (Step t) (table_of_state s)
-stepped most t b s lent after new may is step lends more =
+stepped most t b s live new may is step counted =
     let a = alive_for_step most t s may in
-    step_made most t s a.was after new a.has (subst (λ (b : Bool). IsAdvanced most b (clock_of s) new) is step) (more ∙ ap one_step lends)
+    step_made most t s a.was live new a.has (subst (λ (b : Bool). IsAdvanced most b (clock_of s) new) is step) counted
 
 -- no tick changes nothing
 not_advanced : (most : ℕ) (clock : Clock) → clock.counter ≤ most → IsAdvanced most false clock clock
@@ -176,20 +172,6 @@ no_switch t = grind (arith, nat_tests)
 -- no tick, where there was none
 pub stands_still : (most t : ℕ) (s : State) → MayTake (StandsFor most) s (Step t) → IsAdvanced most false (clock_of s) (clock_of s)
 stands_still most t s may = not_advanced most (clock_of s) (may_advance most (Step t) s may).within
-
--- a step of the thread that made the last one
-pub stepped_on : (most t : ℕ) (s now : State) (lent after : Calls) (heavier : ℕ) → s ≡ now → MayTake (StandsFor most) now (Step t) → lent ≡ calls_of s.live.threads t →
-    now.last ≡ Some t → after ≡ one_step lent → heavier ≡ s.weight + 1 →
-    table_of_state (record s { live = with_calls s.live t after; weight = heavier }) ≡ table_after (bounded_tick most) (Step t) (table_of_state now)
-stepped_on most t s now lent after heavier is may lends runs more weighed =
-    let mine : MayTake (StandsFor most) s (Step t) = subst (λ (k : State). MayTake (StandsFor most) k (Step t)) (sym is) may in
-    let last : s.last ≡ Some t = ap (λ (k : State). k.last) is ∙ runs in
-    let still : false ≡ is_switch s.last t = sym (ap (λ l. is_switch l t) last ∙ no_switch t) in
-    let live = with_calls s.live t after in
-    ap (λ l. table_of_state (record s { live = live; last = l; weight = heavier })) last
-    ∙ ap (λ n. table_of_state (record s { live = live; last = Some t; weight = n })) weighed
-    ∙ stepped most t false s lent after (clock_of s) mine still (stands_still most t s mine) lends more
-    ∙ ap (λ (k : State). table_after (bounded_tick most) (Step t) (table_of_state k)) is
 
 -- a tick may come, by the fields that the code has
 pub advance_here : (most : ℕ) (e : Event) (s now : State) → s ≡ now → MayTake (StandsFor most) now e → MayAdvance most e s

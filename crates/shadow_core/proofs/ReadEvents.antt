@@ -14,7 +14,7 @@ use Rattle.stamp_lanes.specs.Plain.{is_by_kernel, is_by_thread}
 use Rattle.shadow_stack.specs.Frames.{Frame, starts_of}
 use Rattle.shadow_pages.specs.Pages.{Page, stamp_at}
 use Rattle.call_tracker.specs.ThreadCalls.{Calls}
-use Rattle.stamp_renumber.specs.LentThread.{with_calls}
+use Rattle.stamp_renumber.specs.Counted.{found_added, with_calls}
 use Rattle.stamp_renumber.specs.Threads.{Live, Stamped, calls_of, frames_of, pages_of, spare_of, stamped}
 use Rattle.stamp_table.specs.Allows.{AreWithin, IsWithin}
 use Rattle.stamp_table.specs.Frames.{frames_after_reads}
@@ -99,17 +99,13 @@ pub may_same : (most : ℕ) (e : Event) (s now : State) → table_of_state now �
 may_same most e s now same may = record { past = may.past; now = subst (λ (table : Table). Stands most table may.past) (sym same) may.now; formed = may.formed }
 
 -- ---- the read
--- the calls with what was counted
-abbrev pub with_found : ℕ → ℕ → Calls → Calls
-with_found thread kernel c = record c { counts = record c.counts { thread = c.counts.thread + thread; kernel = c.counts.kernel + kernel } }
-
 -- `read` are the threads after the read of the words, and `live` with what was found
 module _ (most t first count thread kernel : ℕ) (s : State) (read live : Live) (was : Stamped) (has : Has s t was)
     (made : IsRead s.live read t (stamp_at s.writes) (stamp_at s.marks) first count s.counter)
     (threads : thread ≡ count_by is_by_thread (places_at (stamp_at (pages_of s.live.threads t)) (stamp_at s.writes) (stamp_at s.marks) (range_with_len first count)))
     (kernels : kernel ≡ count_by is_by_kernel (places_at (stamp_at (pages_of s.live.threads t)) (stamp_at s.writes) (stamp_at s.marks) (range_with_len first count))) where
   pub read_made : (is : Stamped) → live.threads ≡ with_value s.live.threads t is → is.frames ≡ frames_of read.threads t → is.pages ≡ pages_of read.threads t →
-      is.calls ≡ with_found thread kernel (calls_of s.live.threads t) →
+      is.calls ≡ found_added thread kernel (calls_of s.live.threads t) →
       table_of_state (record s { live = live; weight = s.weight + weight_of (Read t first count) }) ≡ table_after (bounded_tick most) (Read t first count) (table_of_state s)
   read_made is changed same_frames same_pages found =
       let write = stamp_at s.writes in
@@ -120,8 +116,8 @@ module _ (most t first count thread kernel : ℕ) (s : State) (read live : Live)
       let calls = its_calls s.live.threads t was has.stamps in
       let by_thread : thread ≡ count_by is_by_thread (places_at (stamp_at was.pages) write marks words) = threads ∙ ap (λ ps. count_by is_by_thread (places_at (stamp_at ps) write marks words)) pages in
       let by_kernel : kernel ≡ count_by is_by_kernel (places_at (stamp_at was.pages) write marks words) = kernels ∙ ap (λ ps. count_by is_by_kernel (places_at (stamp_at ps) write marks words)) pages in
-      let counted : is.calls ≡ with_found (count_by is_by_thread (places_at (stamp_at was.pages) write marks words)) (count_by is_by_kernel (places_at (stamp_at was.pages) write marks words)) was.calls =
-      found ∙ (λ i. with_found (by_thread i) (by_kernel i) (calls i)) in
+      let counted : is.calls ≡ found_added (count_by is_by_thread (places_at (stamp_at was.pages) write marks words)) (count_by is_by_kernel (places_at (stamp_at was.pages) write marks words)) was.calls =
+      found ∙ (λ i. found_added (by_thread i) (by_kernel i) (calls i)) in
       event_is_made most (Read t first count) s s (record s { live = live }) (no_tick_is_made most (Read t first count) s refl)
       (reads_by_parts s t first count live was is has changed
       (ap (reverse {A = Frame}) same_frames ∙ made.frames ∙ (λ i. frames_after_reads (places_at (stamp_at (pages i)) write marks words) (reverse (frames i))))
@@ -145,35 +141,36 @@ module _ (most t first count : ℕ) (s now : State) (more : Live) (is : s ≡ no
   may_read_there = may_read most t first count large (may_same most (Read t first count) s large same_there may_here)
 
   module _ (read : Live) (thread kernel stamp : ℕ) (made : IsRead more read t (stamp_at s.writes) (stamp_at s.marks) first count stamp) where
-    -- the calls, as they are lent
-    lent_as : (lent : Calls) → lent ≡ calls_of read.threads t → lent ≡ may_read_there.was.calls
-    lent_as lent here = here ∙ made.changed.calls ∙ its_calls more.threads t may_read_there.was may_read_there.has.stamps
+    -- the calls stay
+    calls_left : calls_of read.threads t ≡ may_read_there.was.calls
+    calls_left = made.changed.calls ∙ its_calls more.threads t may_read_there.was may_read_there.has.stamps
 
     pub found_lives : is_some (value_of read.threads t) ≡ true
     found_lives = lives_changed more read t (frames_of read.threads t) (pages_of read.threads t) may_read_there.lives made.changed
 
     -- what is found fits
-    pub found_fits : (lent : Calls) → lent ≡ calls_of read.threads t → thread ≤ count → kernel ≤ count → (lent.counts.thread + thread < 2 ^ 64) × (lent.counts.kernel + kernel < 2 ^ 64)
-    found_fits lent here few few' =
+    pub found_fits : thread ≤ count → kernel ≤ count → ((calls_of read.threads t).counts.thread + thread < 2 ^ 64) × ((calls_of read.threads t).counts.kernel + kernel < 2 ^ 64)
+    found_fits few few' =
         let m = may_read_there in
-        let same = lent_as lent here in
+        let same = calls_left in
         (omega (arith, m.thread, few, ap (λ (k : Calls). k.counts.thread) same), omega (arith, m.kernel, few', ap (λ (k : Calls). k.counts.kernel) same))
 
-    pub read_whole : (lent after : Calls) (heavier : ℕ) → lent ≡ calls_of read.threads t → stamp ≡ s.counter →
+    pub read_whole : (live : Live) (heavier : ℕ) → stamp ≡ s.counter →
         thread ≡ count_by is_by_thread (places_at (stamp_at (pages_of more.threads t)) (stamp_at s.writes) (stamp_at s.marks) (range_with_len first count)) →
         kernel ≡ count_by is_by_kernel (places_at (stamp_at (pages_of more.threads t)) (stamp_at s.writes) (stamp_at s.marks) (range_with_len first count)) →
-        after ≡ with_found thread kernel lent → heavier ≡ s.weight + weight_of (Read t first count) →
-        table_of_state (record s { live = with_calls read t after; weight = heavier }) ≡ table_after (bounded_tick most) (Read t first count) (table_of_state now)
-    read_whole lent after heavier here counter threads kernels counted weighed =
+        live ≡ with_calls read t (found_added thread kernel (calls_of read.threads t)) → heavier ≡ s.weight + weight_of (Read t first count) →
+        table_of_state (record s { live = live; weight = heavier }) ≡ table_after (bounded_tick most) (Read t first count) (table_of_state now)
+    read_whole live heavier counter threads kernels counted weighed =
         let m = may_read_there in
+        let after = found_added thread kernel (calls_of read.threads t) in
         let new : Stamped = record { frames = frames_of read.threads t; spare = spare_of read.threads t; pages = pages_of read.threads t; calls = after } in
         let one : (with_calls read t after).threads ≡ with_value more.threads t new =
         ap (λ (xs : List (ℕ × Stamped)). with_value xs t new) made.changed.threads
         ∙ last_change_counts more.threads t (stamped read.threads t (frames_of read.threads t) (pages_of read.threads t)) new in
-        (λ i. table_of_state (record s { live = with_calls read t after; weight = weighed i }))
+        (λ i. table_of_state (record s { live = counted i; weight = weighed i }))
         ∙ read_made most t first count thread kernel large read (with_calls read t after) m.was m.has
         (subst (λ (n : ℕ). IsRead more read t (stamp_at s.writes) (stamp_at s.marks) first count n) counter made) threads kernels
-        new one refl refl (counted ∙ ap (with_found thread kernel) (here ∙ made.changed.calls))
+        new one refl refl (ap (found_added thread kernel) made.changed.calls)
         ∙ ap (λ (table : Table). table_after (bounded_tick most) (Read t first count) table) (same_there ∙ ap table_of_state is)
 
 -- ---- no event

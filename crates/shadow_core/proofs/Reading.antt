@@ -163,7 +163,7 @@ lent_changed live t pages lives =
     let new : Stamped = record { frames = frames_of live.threads t; spare = spare_of live.threads t; pages = pages; calls = calls_of live.threads t } in
     let room : spare_of (with_value live.threads t new) t ≡ spare_of live.threads t = ap (λ (o : Option Stamped). option_map_or (λ (s : Stamped). s.spare) o 0) (with_found live.threads t new lives) in
     let calls : calls_of (with_value live.threads t new) t ≡ calls_of live.threads t =
-    ap (λ (o : Option Stamped). option_map_or (λ (s : Stamped). s.calls) o (record { list = []; counts = no_counts; spare = 0 })) (with_found live.threads t new lives) in record {
+    ap (λ (o : Option Stamped). option_map_or (λ (s : Stamped). s.calls) o (record { list = []; counts = no_counts })) (with_found live.threads t new lives) in record {
       threads = λ i. with_value live.threads t (record { frames = frames_of live.threads t; spare = sym room i; pages = pages; calls = sym calls i });
       calls = calls;
       kept = omega (arith, room);

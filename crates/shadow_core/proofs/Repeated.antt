@@ -12,6 +12,7 @@ use Rattle.stamp_lanes.specs.Plain.{Place, is_by_kernel, is_by_thread, is_foreig
 use Rattle.shadow_stack.specs.Frames.{Frame, plus, starts_of}
 use Rattle.shadow_pages.specs.Pages.{in_range, stamp_at}
 use Rattle.call_tracker.specs.ThreadCalls.{Calls}
+use Rattle.stamp_renumber.specs.Counted.{found_added}
 use Rattle.stamp_renumber.specs.Threads.{Live, calls_of, frames_of, pages_of, stamped}
 use Rattle.stamp_table.specs.Frames.{added_to_top, frames_after_read, gain, negated, taken_at}
 use Rattle.shadow_core.specs.Profiling.{StandsFor}
@@ -23,7 +24,7 @@ use Rattle.stamp_table.specs.Ticks.{table_after}
 use Rattle.shadow_core.proofs.Accessed.{its_calls, written}
 use Rattle.stamp_table.proofs.Frames.{same_sums}
 use Rattle.shadow_core.proofs.Profiled.{IsAlive, alive_here, lives_here}
-use Rattle.shadow_core.proofs.ReadEvents.{MayRead, frames_had, may_read, pages_had, read_made, with_found}
+use Rattle.shadow_core.proofs.ReadEvents.{MayRead, frames_had, may_read, pages_had, read_made}
 use Rattle.shadow_core.proofs.Reading.{in_one, not_changed}
 use Rattle.shadow_core.proofs.StateTold.{thread_is_told}
 
@@ -57,7 +58,7 @@ same_stamps stamps w stamp is v = by (v == w) refl ∙ sym (ap (λ b. cond b sta
     by false here = sym (ap (λ b. cond b stamp (stamps v)) here)
 
 -- the calls stay, where nothing was found
-found_none : (c : Calls) → with_found 0 0 c ≡ c
+found_none : (c : Calls) → found_added 0 0 c ≡ c
 found_none c =
     let thread : c.counts.thread + 0 ≡ c.counts.thread = omega arith in
     let kernel : c.counts.kernel + 0 ≡ c.counts.kernel = omega arith in
@@ -69,7 +70,7 @@ pub read_again : (most t w count : ℕ) (s now : State) (heavier : ℕ) → s �
 read_again most t w count s now heavier is may one own weighed =
     ap (λ n. table_of_state (record s { weight = n })) weighed
     ∙ read_made most t w 1 0 0 s s.live s.live m.was m.has read threads kernels m.was (sym (with_own s.live.threads t m.was m.has.stamps)) (sym had) (sym (pages_had s t m.was m.has))
-    (sym (found_none m.was.calls) ∙ ap (with_found 0 0) (sym (its_calls s.live.threads t m.was m.has.stamps)))
+    (sym (found_none m.was.calls) ∙ ap (found_added 0 0) (sym (its_calls s.live.threads t m.was m.has.stamps)))
     ∙ ap (λ n. table_after (bounded_tick most) (Read t w n) (table_of_state s)) (sym one)
     ∙ ap (λ (k : State). table_after (bounded_tick most) (Read t w count) (table_of_state k)) is
   where

@@ -8,7 +8,7 @@ use Rattle.guest_words.proofs.ThreadTables.{value_of-with}
 use Rattle.shadow_stack.specs.Frames.{Frame}
 use Rattle.shadow_pages.specs.Pages.{Page, covers}
 use Rattle.call_tracker.specs.ThreadCalls.{Calls}
-use Rattle.stamp_renumber.specs.LentThread.{with_calls}
+use Rattle.stamp_renumber.specs.Counted.{with_calls}
 use Rattle.stamp_renumber.specs.Threads.{Live, Stamped, frames_of, pages_of, spare_of, stamped}
 use Rattle.shadow_core.specs.Applying.{HasSamePages}
 use Rattle.shadow_core.specs.Profiling.{Clock, IsAdvanced}
@@ -37,10 +37,10 @@ with_alike xs t new lives alike u w = found (value_of xs t) refl lives
         by false is = refl
 
 -- a thread has other calls
-pub calls_alike : (live : Live) (t : ℕ) (k : Calls) → is_some (value_of live.threads t) ≡ true → AlikeIn live.threads (with_calls live t k).threads
-calls_alike live t k lives =
+pub calls_alike : (live now : Live) (t : ℕ) (k : Calls) → is_some (value_of live.threads t) ≡ true → now ≡ with_calls live t k → AlikeIn live.threads now.threads
+calls_alike live now t k lives is u w =
     let new : Stamped = record { frames = frames_of live.threads t; spare = spare_of live.threads t; pages = pages_of live.threads t; calls = k } in
-    with_alike live.threads t new lives (λ w. refl)
+    ap (λ (l : Live). covers (pages_of l.threads u) w) is ∙ with_alike live.threads t new lives (λ w. refl) u w
 
 -- a thread changed, whose pages hold the same words
 pub changed_alike : (old new : Live) (t : ℕ) (frames : List Frame) (pages : List Page) → is_some (value_of old.threads t) ≡ true → IsChanged old new t frames pages

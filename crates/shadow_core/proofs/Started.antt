@@ -191,7 +191,7 @@ module _ (most t : ℕ) (s : State) (more : Live) (new : Clock) (below : All (λ
   start_room room =
       let found = step.each t (stamped more.threads t [] []) here in
       let spare : spare_of new.live.threads t ≡ spare_of more.threads t = ap (λ (o : Option Stamped). option_map_or (λ (x : Stamped). x.spare) o 0) found.1 ∙ found.2.spare in
-      (omega (arith, room.0, spare), omega (arith, room.1, ap (λ (k : Calls). k.spare) its_own), omega (arith, room.2, step.marks))
+      (omega (arith, room.0, spare), omega (arith, room.1, step.marks))
 
   started : (entry start number : ℕ) (live : Live) → start ≡ new.counter → number ≡ t →
       (calls_of more.threads t).list ≡ [] → (calls_of more.threads t).counts ≡ no_counts →

@@ -12,8 +12,8 @@ use Rattle.trace_model.proofs.Cut.{steps_within}
 use Rattle.trace_model.proofs.Feeding.{steps_formed}
 use Rattle.call_tracker.specs.ThreadCalls.{Calls}
 use Rattle.shadow_pages.specs.Pages.{stamp_at}
-use Rattle.stamp_renumber.specs.LentThread.{with_calls}
-use Rattle.stamp_renumber.specs.Threads.{Stamped, calls_of, frames_of, pages_of, spare_of}
+use Rattle.stamp_renumber.specs.Counted.{steps_added, with_calls}
+use Rattle.stamp_renumber.specs.Threads.{Live, Stamped, calls_of, frames_of, pages_of, spare_of}
 use Rattle.shadow_core.specs.Profiling.{StandsFor}
 use Rattle.stamp_table.specs.Renewal.{bounded_tick}
 use Rattle.stamp_table.specs.Stands.{Stands}
@@ -128,35 +128,35 @@ light : (t n : ℕ) (past : List Event) → 1 ≤ n → IsWellFormed (with_steps
 light t zero past some formed = absurd (omega (arith, some))
 light t (suc n) past some formed = omega (arith, heavier t (suc n) past, formed.1)
 
-pub steps_fit : (most t n : ℕ) (s now : State) (lent : Calls) → s ≡ now → MayStepBy (StandsFor most) (is_within most) now t n → 1 ≤ n →
-    lent ≡ calls_of s.live.threads t → (lent.counts.steps + n < 2 ^ 64) × (s.weight + n < 2 ^ 62)
-steps_fit most t n s now lent is any some lends =
+pub steps_fit : (most t n : ℕ) (s now : State) → s ≡ now → MayStepBy (StandsFor most) (is_within most) now t n → 1 ≤ n →
+    ((calls_of s.live.threads t).counts.steps + n < 2 ^ 64) × (s.weight + n < 2 ^ 62)
+steps_fit most t n s now is any some =
     let may = subst (λ (k : State). MayStepBy (StandsFor most) (is_within most) k t n) (sym is) any in
     let a = alive_for_step most t s (may_step_once most t n s may some) in
     let counts = counts_stay_within (table_of_state s) may.past t (as_thread a.was) may.now.agrees (thread_is_told s t a.was a.has) in
-    let own : lent ≡ a.was.calls = lends ∙ its_calls s.live.threads t a.was a.has.stamps in
+    let own : calls_of s.live.threads t ≡ a.was.calls = its_calls s.live.threads t a.was a.has.stamps in
     let few = light t n may.past some may.formed in
     (omega (arith, few, counts.0, ap (λ (k : Calls). k.counts.steps) own), omega (arith, few, may.now.agrees.weight))
 
-pub steps_made : (most t n : ℕ) (s now : State) (lent after : Calls) (weight : ℕ) → s ≡ now → MayStepBy (StandsFor most) (is_within most) now t n → 1 ≤ n →
-    lent ≡ calls_of s.live.threads t → now.last ≡ Some t → after ≡ record lent { counts = record lent.counts { steps = lent.counts.steps + n } } → weight ≡ s.weight + n →
-    table_of_state (record s { live = with_calls s.live t after; weight = weight }) ≡ table_after_steps (bounded_tick most) t n (table_of_state now)
-steps_made most t zero s now lent after heavy is any some lends runs more weighed = absurd (omega (arith, some))
-steps_made most t (suc n) s now lent after heavy is any some lends runs more weighed =
+pub steps_made : (most t n : ℕ) (s now : State) (live : Live) (weight : ℕ) → s ≡ now → MayStepBy (StandsFor most) (is_within most) now t n → 1 ≤ n →
+    now.last ≡ Some t → live ≡ with_calls s.live t (steps_added n (calls_of s.live.threads t)) → weight ≡ s.weight + n →
+    table_of_state (record s { live = live; weight = weight }) ≡ table_after_steps (bounded_tick most) t n (table_of_state now)
+steps_made most t zero s now live heavy is any some runs counted weighed = absurd (omega (arith, some))
+steps_made most t (suc n) s now live heavy is any some runs counted weighed =
     let may = subst (λ (k : State). MayStepBy (StandsFor most) (is_within most) k t (suc n)) (sym is) any in
     let a = alive_for_step most t s (may_step_once most t (suc n) s may some) in
     let threads = s.live.threads in
     let was = a.was in
     let here = a.has.stamps in
     let last : s.last ≡ Some t = ap (λ (k : State). k.last) is ∙ runs in
-    let own : lent ≡ was.calls = lends ∙ its_calls threads t was here in
-    let added : Calls → Calls = λ k. record k { counts = record k.counts { steps = k.counts.steps + suc n } } in
-    let grown : after ≡ added was.calls = more ∙ ap added own in
+    let after = steps_added (suc n) (calls_of threads t) in
+    let grown : after ≡ steps_added (suc n) was.calls = ap (steps_added (suc n)) (its_calls threads t was here) in
     let new : Stamped = record { frames = frames_of threads t; spare = spare_of threads t; pages = pages_of threads t; calls = after } in
     let one : as_thread new ≡ more_steps (suc n) (as_thread was) =
     λ i. record { frames = reverse (its_frames threads t was here i); calls = (grown i).list; access = stamp_at (its_pages threads t was here i); counts = (grown i).counts } in
     let changes = threads_change threads t was new (more_steps (suc n)) here one in
-    (λ i. record (table_of_state s) { threads = changes i; last = last i; weight = weighed i })
+    ap (λ (l : Live). table_of_state (record s { live = l; weight = heavy })) counted
+    ∙ (λ i. record (table_of_state s) { threads = changes i; last = last i; weight = weighed i })
     ∙ sym (all_made (bounded_tick most) t n (table_of_state s) last)
     ∙ ap (λ (k : State). table_after_steps (bounded_tick most) t (suc n) (table_of_state k)) is
 

@@ -170,7 +170,7 @@ impl<S: Lanes> Profiler<S> {
         ensures table { table_of_state self.new ≡ table_after_steps (bounded_tick S.MAX) tid count
             (table_of_state self.old) }
     {
-        self.threads.calls_mut(tid).add_steps(count);
+        self.threads.add_steps(tid, count);
         self.weight += count;
     }
 
@@ -206,7 +206,7 @@ impl<S: Lanes> Profiler<S> {
             &mut self.counter,
             &mut self.renumbered,
         );
-        self.threads.calls_mut(tid).add_steps(1);
+        self.threads.add_steps(tid, 1);
         self.last = Some(tid);
         self.weight += 1;
     }
@@ -497,7 +497,7 @@ impl<S: Lanes> Profiler<S> {
             ≤ vec_capacity done.old → IsOk result }
         ensures pages { HasSamePages self.old self.new }
     {
-        let ended = self.threads.calls_mut(tid).ending(target);
+        let ended = self.threads.ending(tid, target);
         done.reserve(ended)?;
         end_calls(&mut self.threads, tid, ended, done);
         self.weight += 1;
@@ -617,8 +617,7 @@ impl<S: Lanes> Profiler<S> {
             &self.marks,
             now,
         );
-        let calls = self.threads.calls_mut(tid);
-        calls.add_found(found.thread, found.kernel);
+        self.threads.add_found(tid, found.thread, found.kernel);
         self.weight += 2;
     }
 
@@ -647,8 +646,7 @@ impl<S: Lanes> Profiler<S> {
             &self.zeros,
             now,
         );
-        let calls = self.threads.calls_mut(tid);
-        calls.add_found(found.thread, found.kernel);
+        self.threads.add_found(tid, found.thread, found.kernel);
         self.weight += 1 + u64::from(count);
         Ok(())
     }

@@ -1,8 +1,10 @@
 -- Frames as a struct keeps them, and as contracts see them: what is changed at one place.
-use Rattle.std.proofs.Common.{◌≡◌, ◌≢◌, ℕ, zero, suc, ◌<◌, List, [], ◌∷◌, ◌++◌, length, map, get_or, take, refl, sym, ap, subst, ◌∙◌, arith}
+use Rattle.std.proofs.Common.{◌≡◌, ◌≢◌, ℕ, zero, suc, ◌<◌, List, [], ◌∷◌, ◌++◌, length, map, get_or, reverse, take, refl, sym, ap, subst, ◌∙◌, arith}
 use Rattle.std.specs.Prelude.{Option, None, Some, slice_get, slice_index, slice_set, IfSome}
 use Rattle.std.specs.Option.{option_map_or}
-use Rattle.std.proofs.lemmas.List.{length-append, get_or_append_left}
+use Rattle.std.proofs.Math.Seq.{take-append_seam}
+use Rattle.std.proofs.lemmas.List.{length-append, length-map, get_or_append_left, map-append, reverse-append}
+use Rattle.std.proofs.lemmas.Simd.{map-map}
 use Rattle.shadow_stack.specs.declared.sums.Sums.{Sums}
 use Rattle.shadow_stack.specs.Frames.{Frame, FitsPop, FitsSums, starts_of, IsLastAtMost, IsRising, changed, added, added_to_last, plus, restarted}
 
@@ -20,11 +22,11 @@ module _ {X : Type 0} (start : X → ℕ) (sums : X → Sums) where
   changed-set (y ∷ xs) zero old new change within was is = ap (λ f. f ∷ map seen xs) (is ∙ ap (λ x. change (seen x)) was)
   changed-set (y ∷ xs) (suc i) old new change within was is = ap (λ fs. seen y ∷ fs) (changed-set xs i old new change (omega (arith, within)) was is)
 
-  -- where a start stays, all starts do
-  pub starts-set : (xs : List X) (i : ℕ) (old new : X) → i < length xs → old ≡ get_or xs i old → start new ≡ start old → map start (slice_set xs i new) ≡ map start xs
-  starts-set [] i old new within was is = absurd (omega (arith, within))
-  starts-set (y ∷ xs) zero old new within was is = ap (λ s. s ∷ map start xs) (is ∙ ap start was)
-  starts-set (y ∷ xs) (suc i) old new within was is = ap (λ ss. start y ∷ ss) (starts-set xs i old new (omega (arith, within)) was is)
+-- where what is seen of one stays, it stays of all
+pub same-set : {X Y : Type 0} (f : X → Y) (xs : List X) (i : ℕ) (old new : X) → i < length xs → old ≡ get_or xs i old → f new ≡ f old → map f (slice_set xs i new) ≡ map f xs
+same-set f [] i old new within was is = absurd (omega (arith, within))
+same-set f (y ∷ xs) zero old new within was is = ap (λ z. z ∷ map f xs) (is ∙ ap f was)
+same-set f (y ∷ xs) (suc i) old new within was is = ap (λ zs. f y ∷ zs) (same-set f xs i old new (omega (arith, within)) was is)
 
 -- ---- a change at one place
 pub length_changed : (i : ℕ) (by : Sums) (frames : List Frame) → length (added i by frames) ≡ length frames
@@ -100,3 +102,21 @@ below_fits zero (f ∷ g ∷ outer) top long fits = absurd (omega (arith, long))
 below_fits (suc n) (f ∷ []) top long fits = absurd (omega (arith, long))
 below_fits (suc n) (f ∷ g ∷ []) top long fits = below_fits n (g ∷ []) top (omega (arith, long)) fits
 below_fits (suc n) (f ∷ g ∷ h ∷ outer) top long fits = below_fits n (g ∷ h ∷ outer) top (omega (arith, long)) fits
+
+-- what is seen of all but the last
+pub left_seen : {X Y : Type 0} (f : X → Y) (xs left : List X) (top : X) (n : ℕ) → xs ≡ left ++ top ∷ [] → n ≡ length left → take n (map f xs) ≡ map f left
+left_seen f xs left top n is long =
+    ap (λ ys. take n (map f ys)) is ∙ ap (take n) (map-append f left (top ∷ []))
+    ∙ ap (λ k. take k (map f left ++ f top ∷ [])) (long ∙ sym (length-map left f)) ∙ take-append_seam (map f left) (f top ∷ [])
+
+-- what is seen through what is the same
+pub same_through : {X Y Z : Type 0} (f : X → Y) (g : Y → Z) (xs ys : List X) → map f xs ≡ map f ys → map (λ x. g (f x)) xs ≡ map (λ x. g (f x)) ys
+same_through f g xs ys same = sym (map-map g f xs) ∙ ap (map g) same ∙ map-map g f ys
+
+-- the same in reverse
+pub seen_reversed : {X Y Z : Type 0} (f : X → Y) (g : Y → Z) (xs : List X) → map (λ x. g (f x)) (reverse xs) ≡ map g (reverse (map f xs))
+seen_reversed f g [] = refl
+seen_reversed f g (x ∷ xs) =
+    ap (map (λ x. g (f x))) (reverse-append (x ∷ []) xs) ∙ map-append (λ x. g (f x)) (reverse xs) (x ∷ [])
+    ∙ ap (λ zs. zs ++ g (f x) ∷ []) (seen_reversed f g xs)
+    ∙ sym (ap (map g) (reverse-append (f x ∷ []) (map f xs)) ∙ map-append g (reverse (map f xs)) (f x ∷ []))

@@ -1,7 +1,8 @@
--- The frames of a thread, the outermost first.
+-- The frames of a thread, the outermost first, and its calls, the innermost first.
 use Rattle.std.proofs.Common.{zero, suc}
 use Rattle.std.specs.Prelude.{◌≡◌, ℕ, ◌-◌, ◌<◌, ◌≤◌, ◌^◌, ℤ, pos, negsuc, ◌+ℤ◌, ◌≤ℤ◌, List, [], ◌∷◌, ◌++◌, map, length, slice_index, Option, Some, None}
 use Rattle.std.specs.Option.{option_map_or}
+use Rattle.call_tracker.specs.ThreadCalls.{CountedCall}
 use Rattle.shadow_stack.specs.declared.sums.Sums.{Sums}
 
 -- A frame: the start stamp of its activation, and its partial sums.
@@ -9,9 +10,10 @@ pub record Frame : Type 0 where
   pub start : ℕ
   pub sums : Sums
 
--- The frames, and how many can be pushed without allocating.
+-- The frames, the calls, and how many of both can be pushed without allocating.
 pub record Stack : Type 0 where
   pub list : List Frame
+  pub calls : List CountedCall
   pub spare : ℕ
 
 abbrev pub starts_of : List Frame → List ℕ

@@ -1,50 +1,71 @@
-//! The frames and their search.
-ghost use Rattle.std.specs.Prelude.{◌≡◌, ◌≤◌, ◌<◌, ◌+◌, ◌-◌, ◌*◌, ◌^◌, ◌++◌, ◌∷◌, [], ℕ, length, map, All, IfSome, IsOk, Some, OnOk, OnErr, nat_lt, true, slice_get, slice_index};
-ghost use Rattle.std.specs.Option.{option_map_or};
+//! The frames, with their calls, and their search.
+ghost use Rattle.std.specs.Prelude.{◌≡◌, ◌≤◌, ◌<◌, ◌+◌, ◌-◌, ◌*◌, ◌^◌, ◌++◌, ◌∷◌, [], ℕ, length, map, All, IfNone, IfSome, IsOk, Some, OnOk, OnErr, nat_lt, true, slice_get, slice_index};
+ghost use Rattle.std.specs.Option.{option_map, option_map_or};
+ghost use Rattle.trace_model.specs.Activations.{count_returned};
+ghost use Rattle.call_tracker.specs.ThreadCalls.{CountedCall};
 ghost use Rattle.shadow_stack.specs.Frames.{FitsPop, FitsSums, IsLastAtMost, IsMoved, IsPopped, IsRising, added, new_frame, plus, restarted, starts_of};
 
 use crate::{Steps, Sums};
+use call_tracker::{BegunCall, Missed, Returns};
+use guest_words::Addr;
 use room_stack::RoomStack;
 use stamps::Stamp;
 use std::alloc::{AllocError, Global};
 use std::marker::{Brand, Model};
 use std::sync::ledger::{Blank, Ledger};
 
-// One frame.
+// One frame, with its call.
 #[derive(Clone, Copy)]
-struct Frame<S: Stamp> {
+struct Entry<S: Stamp> {
     start: S,
     sums: Sums,
+    call: BegunCall,
 }
 
-/// Frames by rising start stamps, the outermost first. Only `push` and `reserve` allocate, and none but `push`
-/// lowers the room.
+impl<S: Stamp> Returns for Entry<S> {
+    ghost back_of = { λ x. x.call.back };
+
+    #[inline(always)]
+    fn back(&self) -> Option<Addr> {
+        self.call.back()
+    }
+}
+
+/// Frames by rising start stamps, each with its call. Contracts see the frames, the outermost first, and the calls, the innermost
+/// first. Only `push` and `reserve` allocate, and none but `push` lowers the room.
 #[derive(Drop)]
 pub struct Frames<S: Stamp> {
-    frames: RoomStack<Frame<S>>,
+    entries: RoomStack<Entry<S>>,
+    // Targets of returns that ended no call.
+    missed: Missed,
 }
 
 impl<S: Stamp> Model for Frames<S> {
-    ghost use Rattle.std.specs.Prelude.{map};
+    ghost use Rattle.std.specs.Prelude.{map, reverse};
+    ghost use Rattle.call_tracker.specs.Missed.{AreMissed};
     ghost use Rattle.shadow_stack.specs.Frames.{IsRising, Stack};
 
     ghost Value = { Stack };
 
     ghost view = { λ f. record {
-      list = map (λ x. record { start = S.number_of x.start; sums = x.sums }) f.frames.items;
-      spare = f.frames.spare;
+      list = map (λ x. record { start = S.number_of x.start; sums = x.sums }) f.entries.items;
+      calls = reverse (map (λ x. x.call) f.entries.items);
+      spare = f.entries.spare;
     } };
 
-    ghost invariant = { λ f. IsRising (map (λ x. S.number_of x.start) f.frames.items) };
+    ghost invariant = { λ f. IsRising (map (λ x. S.number_of x.start) f.entries.items)
+        × AreMissed (map (λ x. x.call.back) f.entries.items) f.missed };
 }
 
 impl<S: Stamp> Frames<S> {
     /// No frame.
     pub fn new(alloc: Global) -> Frames<S>
-        ensures { result.list ≡ [] }
+        ensures list { result.list ≡ [] }
+        ensures calls { result.calls ≡ [] }
     {
         Frames {
-            frames: RoomStack::new(alloc),
+            entries: RoomStack::new(alloc),
+            missed: Missed::nothing(),
         }
     }
 
@@ -52,7 +73,7 @@ impl<S: Stamp> Frames<S> {
     pub fn depth(&self) -> usize
         ensures { result ≡ length self.now.list }
     {
-        self.frames.len()
+        self.entries.len()
     }
 
     /// The start stamp of the frame at the place. The starts rise.
@@ -61,16 +82,17 @@ impl<S: Stamp> Frames<S> {
         ensures start { S.number_of result ≡ slice_index (starts_of self.now.list) i }
         ensures rising { IsRising (starts_of self.now.list) }
     {
-        self.frames.as_slice()[i].start
+        self.entries.as_slice()[i].start
     }
 
     /// Makes the room for one more frame.
     pub fn reserve(&mut self) -> Result<(), AllocError>
         ensures room { OnOk result (1 ≤ self.new.spare) }
         ensures list { self.new.list ≡ self.old.list }
+        ensures calls { self.new.calls ≡ self.old.calls }
         ensures kept { self.old.spare ≤ self.new.spare }
     {
-        self.frames.reserve()
+        self.entries.reserve()
     }
 
     /// Whether there is room for one more frame.
@@ -78,24 +100,38 @@ impl<S: Stamp> Frames<S> {
     pub fn has_room(&self) -> bool
         ensures { result ≡ nat_lt 0 self.now.spare }
     {
-        self.frames.has_room()
+        self.entries.has_room()
     }
 
-    /// One more frame inside all the others, with no sums. It is not refused where there is room.
+    /// One more frame inside all the others, with its call and no sums. It is not refused where there is room.
     #[inline(always)]
-    pub fn push(&mut self, start: S) -> Result<(), AllocError>
+    pub fn push(&mut self, start: S, call: BegunCall) -> Result<(), AllocError>
         requires { All (λ s. s < S.number_of start) (starts_of self.old.list) }
         ensures ok { OnOk result (self.new.list
             ≡ self.old.list ++ new_frame (S.number_of start) ∷ []) }
+        ensures call { OnOk result (self.new.calls ≡ call ∷ self.old.calls) }
         ensures err { OnErr result (self.new.list ≡ self.old.list) }
+        ensures err_calls { OnErr result (self.new.calls ≡ self.old.calls) }
         ensures room { 1 ≤ self.old.spare → IsOk result }
         ensures lowered { self.old.spare ≤ self.new.spare + 1 }
     {
-        self.frames.push(Frame {
+        self.entries.push(Entry {
             start,
             sums: Sums::NONE,
+            call,
         })?;
         Ok(())
+    }
+
+    /// How many calls a return to the target ends.
+    #[inline(always)]
+    pub fn ending(&mut self, target: Addr) -> usize
+        ensures count { result ≡ count_returned target
+            (map (λ (c : CountedCall). c.back) self.old.calls) }
+        ensures within { result ≤ length self.old.calls }
+        ensures same { self.new ≡ self.old }
+    {
+        self.missed.ending(target, self.entries.as_slice())
     }
 
     /// Adds to the sums of the frame at the place.
@@ -104,11 +140,11 @@ impl<S: Stamp> Frames<S> {
         requires within { i < length self.old.list }
         requires fits { IfSome (slice_get self.old.list i) (λ f. FitsSums (plus f.sums by)) }
         ensures list { self.new.list ≡ added i by self.old.list }
+        ensures calls { self.new.calls ≡ self.old.calls }
         ensures kept { self.old.spare ≤ self.new.spare }
     {
-        let frame = self.frames.as_slice()[i];
-        let sums = frame.sums.plus(by);
-        self.frames.set(i, Frame { sums, ..frame });
+        let entry = self.entries.at_mut(i);
+        entry.sums = entry.sums.plus(by);
     }
 
     // Adds to the sums of the frame at the place, if there is one.
@@ -117,6 +153,7 @@ impl<S: Stamp> Frames<S> {
         requires within { (i : ℕ) → place ≡ Some i → i < length self.old.list }
         requires fits { (i : ℕ) → IfSome (slice_get self.old.list i) (λ f. FitsSums (plus f.sums by)) }
         ensures list { self.new.list ≡ option_map_or (λ i. added i by self.old.list) place self.old.list }
+        ensures calls { self.new.calls ≡ self.old.calls }
         ensures kept { self.old.spare ≤ self.new.spare }
     {
         if let Some(i) = place {
@@ -143,6 +180,7 @@ impl<S: Stamp> Frames<S> {
         requires fits { (i : ℕ) → IfSome (slice_get self.old.list i) (λ f. FitsSums (plus f.sums by)) }
         requires fits_back { (i : ℕ) → IfSome (slice_get self.old.list i) (λ f. FitsSums (plus f.sums back)) }
         ensures moved { IsMoved (S.number_of stamp) by back self.old.list self.new.list }
+        ensures calls { self.new.calls ≡ self.old.calls }
         ensures kept { self.old.spare ≤ self.new.spare }
     {
         let top = self.depth() - 1;
@@ -164,6 +202,7 @@ impl<S: Stamp> Frames<S> {
         requires fits { (i : ℕ) → IfSome (slice_get self.old.list i) (λ f. FitsSums (plus f.sums by)) }
         requires fits_back { (i : ℕ) → IfSome (slice_get self.old.list i) (λ f. FitsSums (plus f.sums back)) }
         ensures moved { IsMoved (S.number_of stamp) by back self.old.list self.new.list }
+        ensures calls { self.new.calls ≡ self.old.calls }
         ensures kept { self.old.spare ≤ self.new.spare }
     {
         let _ = stamp;
@@ -180,25 +219,29 @@ impl<S: Stamp> Frames<S> {
         requires fits { (i : ℕ) → IfSome (slice_get self.old.list i) (λ f. FitsSums (plus f.sums by)) }
         requires fits_back { (i : ℕ) → IfSome (slice_get self.old.list i) (λ f. FitsSums (plus f.sums back)) }
         ensures moved { IsMoved (S.number_of stamp) by back self.old.list self.new.list }
+        ensures calls { self.new.calls ≡ self.old.calls }
         ensures kept { self.old.spare ≤ self.new.spare }
     {
         let place = last_at_most(self, stamp);
         self.move_from(place, top, stamp, by, back);
     }
 
-    /// Takes the innermost frame, and hands its sums down: they are added to the frame below, if there is one.
+    /// Takes the innermost frame with its call, and hands its sums down: they are added to the frame below, if there is one.
     #[inline(always)]
-    pub fn pop(&mut self) -> Option<Sums>
+    pub fn pop(&mut self) -> Option<(Sums, BegunCall)>
         requires { FitsPop self.old.list }
-        ensures popped { IsPopped self.old.list result self.new.list }
+        ensures popped { IsPopped self.old.list (option_map (λ p. p.0) result) self.new.list }
+        ensures call { IfSome result (λ p. self.old.calls ≡ p.1 ∷ self.new.calls) }
+        ensures none { IfNone result (self.old.calls ≡ []) }
         ensures kept { self.old.spare ≤ self.new.spare }
     {
-        let top = self.frames.pop()?;
-        let depth = self.frames.len();
+        let top = self.entries.pop()?;
+        let depth = self.entries.len();
+        self.missed.keep(depth);
         if depth > 0 {
             self.add(depth - 1, top.sums);
         }
-        Some(top.sums)
+        Some((top.sums, top.call))
     }
 
     /// Other starts for all frames, the outermost first. They rise too.
@@ -206,9 +249,10 @@ impl<S: Stamp> Frames<S> {
         requires each { length starts.now ≡ length self.old.list }
         requires rising { IsRising (map S.number_of starts.now) }
         ensures list { self.new.list ≡ restarted (map S.number_of starts.now) self.old.list }
+        ensures calls { self.new.calls ≡ self.old.calls }
         ensures kept { self.new.spare ≡ self.old.spare }
     {
-        restart(&mut self.frames, starts);
+        restart(&mut self.entries, starts);
     }
 
     /// The innermost frame whose start is at most the stamp. A step is one comparison with a start.
@@ -216,27 +260,28 @@ impl<S: Stamp> Frames<S> {
         ensures found { IsLastAtMost (starts_of self.now.list) (S.number_of stamp) result }
         ensures cost { 2 ^ (steps.new - steps.old) ≤ 2 * length self.now.list + 1 }
     {
-        first_above(self.frames.as_slice(), stamp.number(), steps).checked_sub(1)
+        first_above(self.entries.as_slice(), stamp.number(), steps).checked_sub(1)
     }
 }
 
 // Gives each frame its new start.
-fn restart<S: Stamp>(frames: &mut RoomStack<Frame<S>>, starts: &[S])
-    requires { length starts.now ≡ length frames.old.items }
-    ensures list { map (λ x. record { start = S.number_of x.start; sums = x.sums }) frames.new.items
+fn restart<S: Stamp>(entries: &mut RoomStack<Entry<S>>, starts: &[S])
+    requires { length starts.now ≡ length entries.old.items }
+    ensures list { map (λ x. record { start = S.number_of x.start; sums = x.sums }) entries.new.items
         ≡ restarted (map S.number_of starts.now)
-        (map (λ x. record { start = S.number_of x.start; sums = x.sums }) frames.old.items) }
-    ensures spare { frames.new.spare ≡ frames.old.spare }
+        (map (λ x. record { start = S.number_of x.start; sums = x.sums }) entries.old.items) }
+    ensures calls { map (λ x. x.call) entries.new.items ≡ map (λ x. x.call) entries.old.items }
+    ensures spare { entries.new.spare ≡ entries.old.spare }
 {
-    for i in 0..frames.len() {
-        let frame = frames.as_slice()[i];
+    for i in 0..entries.len() {
+        let entry = entries.as_slice()[i];
         let start = starts[i];
-        frames.set(i, Frame { start, ..frame });
+        entries.set(i, Entry { start, ..entry });
     }
 }
 
 // How many frames, from the outermost on, have a start at most n.
-fn first_above<S: Stamp, L: Ledger>(frames: &[Frame<S>], n: u32, steps: &mut Steps<L>) -> usize
+fn first_above<S: Stamp, L: Ledger>(frames: &[Entry<S>], n: u32, steps: &mut Steps<L>) -> usize
     requires { IsRising (map (λ x. S.number_of x.start) frames.now) }
     ensures within { result ≤ length frames.now }
     ensures below { (i : ℕ) → i < result → slice_index (map (λ x. S.number_of x.start) frames.now) i

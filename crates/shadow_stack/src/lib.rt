@@ -1,6 +1,6 @@
 //! The frames of a thread, one for each open activation: when it began, and its partial sums, as in the algorithm of Coppa,
-//! Demetrescu and Finocchi ("Input-Sensitive Profiling", PLDI 2012). Contracts see a list of frames, the outermost first, and
-//! beside it the room for further ones.
+//! Demetrescu and Finocchi ("Input-Sensitive Profiling", PLDI 2012); and its call. Contracts see a list of frames, the outermost
+//! first, the list of their calls, the innermost first, and beside them the room for further ones.
 #![tactic(auto)]
 
 mod frames;

@@ -11,7 +11,8 @@ use Rattle.shadow_stack.specs.declared.sums.Sums.{Sums}
 use Rattle.shadow_stack.specs.Frames.{Frame, IsPopped, added_to_last, starts_of}
 use Rattle.stamp_renumber.specs.Kept.{IsKept}
 use Rattle.call_tracker.specs.ThreadCalls.{Calls, no_counts}
-use Rattle.stamp_renumber.specs.Threads.{Stamped, all_starts, calls_of, frames_of, own_of, pages_of, spare_of, stamped}
+use Rattle.stamp_renumber.specs.Counted.{with_calls}
+use Rattle.stamp_renumber.specs.Threads.{Live, Stamped, all_starts, calls_of, frames_of, own_of, pages_of, spare_of, stamped}
 
 -- ---- how many frames there are
 pub starts_long : (x : ℕ × Stamped) (xs : List (ℕ × Stamped)) → length (all_starts (x ∷ xs)) ≡ length x.1.frames + length (all_starts xs)
@@ -98,7 +99,7 @@ kept_without xs t n m a b kept =
 
 -- ---- one thread, which has a value
 abbrev calls_in : Option Stamped → Calls
-calls_in o = option_map_or (λ (s : Stamped). s.calls) o (record { list = []; counts = no_counts; spare = 0 })
+calls_in o = option_map_or (λ (s : Stamped). s.calls) o (record { list = []; counts = no_counts })
 
 module _ (xs threads : List (ℕ × Stamped)) (is : xs ≡ threads) (t : ℕ) (old : Stamped) (here : value_of xs t ≡ Some old) where
   there : value_of threads t ≡ Some old
@@ -152,6 +153,16 @@ module _ (xs threads : List (ℕ × Stamped)) (is : xs ≡ threads) (t : ℕ) (o
       ap (λ ys. with_value ys t new) is
       ∙ ap (λ (s : Stamped). with_value threads t s)
       ((λ i. record { frames = f i; spare = sym (spare_is new) i; pages = (p ∙ sym pages_were) i; calls = sym (calls_are new) i }))
+
+-- its calls changed
+pub changed_calls : (xs : List (ℕ × Stamped)) (marks : ℕ) (live : Live) (t : ℕ) (old new : Stamped) (change : Calls → Calls) → record { threads = xs; marks = marks } ≡ live →
+    value_of xs t ≡ Some old → new ≡ record old { calls = change old.calls } →
+    record { threads = with_value xs t new; marks = marks } ≡ with_calls live t (change (calls_of live.threads t))
+changed_calls xs marks live t old new change is here made =
+    let own : record old { calls = change old.calls } ≡ record (own_of xs t) { calls = change (calls_of xs t) } =
+    ap (λ (s : Stamped). record s { calls = change s.calls }) (sym (own_was xs xs refl t old here)) in
+    ap (λ (s : Stamped). record { threads = with_value xs t s; marks = marks }) (made ∙ own)
+    ∙ ap (λ (l : Live). with_calls l t (change (calls_of l.threads t))) is
 
 -- a thread as it was
 pub unchanged : (threads : List (ℕ × Stamped)) (t : ℕ) → is_some (value_of threads t) ≡ true → threads ≡ with_value threads t (stamped threads t (frames_of threads t) (pages_of threads t))

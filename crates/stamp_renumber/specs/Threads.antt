@@ -7,8 +7,8 @@ use Rattle.shadow_pages.specs.Pages.{Page}
 use Rattle.guest_words.specs.ByThread.{value_of}
 use Rattle.call_tracker.specs.ThreadCalls.{Calls, no_counts}
 
--- What is kept of a thread: its frames, the outermost first, how many more can be pushed without allocating, the pages of its
--- access stamps, and its calls, with what it has counted.
+-- What is kept of a thread: its frames, the outermost first, how many more can be pushed with their calls without allocating, the
+-- pages of its access stamps, and its calls, with what it has counted.
 pub record Stamped : Type 0 where
   pub frames : List Frame
   pub spare : ℕ
@@ -38,14 +38,14 @@ pages_of threads t = option_map_or (λ (s : Stamped). s.pages) (value_of threads
 
 -- its calls
 abbrev pub calls_of : List (ℕ × Stamped) → ℕ → Calls
-calls_of threads t = option_map_or (λ (s : Stamped). s.calls) (value_of threads t) (record { list = []; counts = no_counts; spare = 0 })
+calls_of threads t = option_map_or (λ (s : Stamped). s.calls) (value_of threads t) (record { list = []; counts = no_counts })
 
--- there is room for one more frame of the thread, for its mark and for its call
+-- there is room for one more frame of the thread with its call, and for its mark
 abbrev pub HasRoom : Live → ℕ → Type 0
-HasRoom live t = (1 ≤ spare_of live.threads t) × (1 ≤ (calls_of live.threads t).spare) × (1 ≤ live.marks)
+HasRoom live t = (1 ≤ spare_of live.threads t) × (1 ≤ live.marks)
 
 abbrev pub has_room : Live → ℕ → Bool
-has_room live t = nat_lt 0 live.marks && (nat_lt 0 (spare_of live.threads t) && nat_lt 0 (calls_of live.threads t).spare)
+has_room live t = nat_lt 0 live.marks && nat_lt 0 (spare_of live.threads t)
 
 -- a thread with these frames and pages, and the room and the calls that it has among the threads
 abbrev pub stamped : List (ℕ × Stamped) → ℕ → List Frame → List Page → Stamped

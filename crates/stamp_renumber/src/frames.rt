@@ -47,6 +47,7 @@ pub(crate) fn renew_frames<S: Stamp>(frames: &mut Frames<S>, starts: &[S], renew
     requires among { All (Contains (map S.number_of starts.now)) (starts_of frames.old.list) }
     requires room { length frames.old.list ≤ vec_capacity renewed.old }
     ensures list { frames.new.list ≡ renewed_frames (map S.number_of starts.now) frames.old.list }
+    ensures calls { frames.new.calls ≡ frames.old.calls }
     ensures spare { frames.new.spare ≡ frames.old.spare }
     ensures capacity { vec_capacity renewed.old ≤ vec_capacity renewed.new }
 {

@@ -1,11 +1,12 @@
 //! What is kept of a thread.
-ghost use Rattle.std.specs.Prelude.{◌≡◌, ◌&&◌, ◌≤◌, ◌<◌, ◌+◌, ◌*◌, ◌++◌, ◌∷◌, [], ℕ, All, Contains, IfOk, IfSome, OnOk, Some, length, map, nat_lt, slice_get};
+ghost use Rattle.std.specs.Prelude.{◌≡◌, ◌≤◌, ◌<◌, ◌+◌, ◌*◌, ◌^◌, ◌++◌, ◌∷◌, [], ℕ, All, Contains, IfOk, IfSome, OnOk, Some, length, map, nat_lt, slice_get};
 ghost use Rattle.std.specs.Borrow.{sem};
 ghost use Rattle.std.specs.Vec.{vec_capacity};
 ghost use Rattle.std.specs.List.Sorted.{IsNonDecreasingBy};
 ghost use Rattle.shadow_stack.specs.Frames.{FitsPop, FitsSums, IsPopped, added, new_frame, plus, starts_of};
 ghost use Rattle.shadow_pages.specs.Pages.{HasPlace};
 ghost use Rattle.call_tracker.specs.ThreadCalls.{no_counts};
+ghost use Rattle.stamp_renumber.specs.Counted.{found_added, steps_added};
 ghost use Rattle.stamp_renumber.specs.Renumbered.{IsThreadRenumbered};
 ghost use Rattle.stamp_renumber.specs.Returned.{returned_by};
 ghost use Rattle.stamp_renumber.specs.WordRead.{IsWordRead};
@@ -13,7 +14,7 @@ ghost use Rattle.stamp_renumber.specs.WordRead.{IsWordRead};
 use crate::frames::renew_frames;
 use crate::pages::renew_accesses;
 use crate::rows::WorkRows;
-use call_tracker::{BegunCall, ThreadCalls, ThreadCounts};
+use call_tracker::{BegunCall, ThreadCounts};
 use guest_words::{Addr, Word};
 use shadow_pages::Shadow;
 use shadow_stack::{Frames, Sums};
@@ -37,12 +38,12 @@ pub enum Returned {
     Many(usize),
 }
 
-/// The frames of a thread, the stamps of its accesses, and its calls.
+/// The frames of a thread with their calls, the stamps of its accesses, and what it has counted.
 #[derive(Drop)]
 pub(crate) struct ThreadStamps<S: Stamp> {
     frames: Frames<S>,
     shadow: Shadow<S>,
-    calls: ThreadCalls,
+    counts: ThreadCounts,
 }
 
 impl<S: Stamp> Model for ThreadStamps<S> {
@@ -54,12 +55,12 @@ impl<S: Stamp> Model for ThreadStamps<S> {
       frames = t.frames.list;
       spare = t.frames.spare;
       pages = t.shadow.pages;
-      calls = t.calls;
+      calls = record { list = t.frames.calls; counts = t.counts };
     } };
 }
 
 impl<S: Stamp> ThreadStamps<S> {
-    ghost use Rattle.stamp_renumber.specs.Private.LentShadow.{LendsCalls, LendsShadow};
+    ghost use Rattle.stamp_renumber.specs.Private.LentShadow.{LendsShadow};
 
     /// No frame, no stamp and no call.
     pub(crate) fn new(alloc: Global) -> Result<ThreadStamps<S>, AllocError>
@@ -71,13 +72,13 @@ impl<S: Stamp> ThreadStamps<S> {
         Ok(ThreadStamps {
             frames: Frames::new(alloc),
             shadow: Shadow::new(alloc)?,
-            calls: ThreadCalls::new(alloc)?,
+            counts: ThreadCounts::none(),
         })
     }
 
     /// The frames.
     pub(crate) fn frames(&self) -> &Frames<S>
-        ensures { result.now ≡ record { list = self.now.frames; spare = self.now.spare } }
+        ensures { result.now ≡ record { list = self.now.frames; calls = self.now.calls.list; spare = self.now.spare } }
     {
         &self.frames
     }
@@ -97,12 +98,22 @@ impl<S: Stamp> ThreadStamps<S> {
         &mut self.shadow
     }
 
-    /// Its calls, for writing.
-    pub(crate) fn calls_mut(&mut self) -> &mut ThreadCalls
-        ensures* writes_back { sem 𝓛 (LendsCalls S.row S.Stamp self.entry result) }
-        ensures value { result.now ≡ self.old.calls }
+    /// Counts steps.
+    #[inline(always)]
+    pub(crate) fn add_steps(&mut self, steps: u64)
+        requires { self.old.calls.counts.steps + steps < 2 ^ 64 }
+        ensures { self.new ≡ record self.old { calls = steps_added steps self.old.calls } }
     {
-        &mut self.calls
+        self.counts.add_steps(steps);
+    }
+
+    /// Counts the words that a read found written by another thread, and by the kernel.
+    pub(crate) fn add_found(&mut self, thread: u64, kernel: u64)
+        requires thread { self.old.calls.counts.thread + thread < 2 ^ 64 }
+        requires kernel { self.old.calls.counts.kernel + kernel < 2 ^ 64 }
+        ensures { self.new ≡ record self.old { calls = found_added thread kernel self.old.calls } }
+    {
+        self.counts.add_found(thread, kernel);
     }
 
     /// How many calls a return to the target ends.
@@ -112,36 +123,33 @@ impl<S: Stamp> ThreadStamps<S> {
         ensures within { result ≤ length self.old.calls.list }
         ensures same { self.new ≡ self.old }
     {
-        self.calls.ending(target)
+        self.frames.ending(target)
     }
 
-    /// Makes the room for one more frame and for its call.
+    /// Makes the room for one more frame with its call.
     pub(crate) fn reserve(&mut self) -> Result<(), AllocError>
-        ensures room { OnOk result ((1 ≤ self.new.spare) × (1 ≤ self.new.calls.spare)) }
+        ensures room { OnOk result (1 ≤ self.new.spare) }
         ensures frames { self.new.frames ≡ self.old.frames }
         ensures pages { self.new.pages ≡ self.old.pages }
-        ensures list { self.new.calls.list ≡ self.old.calls.list }
-        ensures counts { self.new.calls.counts ≡ self.old.calls.counts }
+        ensures calls { self.new.calls ≡ self.old.calls }
         ensures kept { self.old.spare ≤ self.new.spare }
     {
-        self.frames.reserve()?;
-        self.calls.reserve()
+        self.frames.reserve()
     }
 
-    /// Whether there is room for one more frame and for its call.
+    /// Whether there is room for one more frame with its call.
     #[inline(always)]
     pub(crate) fn has_room(&self) -> bool
-        ensures { result ≡ (nat_lt 0 self.now.spare && nat_lt 0 self.now.calls.spare) }
+        ensures { result ≡ nat_lt 0 self.now.spare }
     {
-        self.frames.has_room() && self.calls.has_room()
+        self.frames.has_room()
     }
 
-    /// One more frame, with its call. There is room for both.
+    /// One more frame, with its call. There is room for it.
     #[inline(always)]
     pub(crate) fn push(&mut self, start: S, entry: Addr, back: Option<Addr>)
         requires above { All (λ s. s < S.number_of start) (starts_of self.old.frames) }
         requires room { 1 ≤ self.old.spare }
-        requires call { 1 ≤ self.old.calls.spare }
         ensures frames { self.new.frames
             ≡ self.old.frames ++ new_frame (S.number_of start) ∷ [] }
         ensures pages { self.new.pages ≡ self.old.pages }
@@ -150,8 +158,8 @@ impl<S: Stamp> ThreadStamps<S> {
         ensures counts { self.new.calls.counts ≡ self.old.calls.counts }
         ensures lowered { self.old.spare ≤ self.new.spare + 1 }
     {
-        self.frames.push(start).unwrap();
-        self.calls.push(entry, back).unwrap();
+        let call = BegunCall::new(entry, back, self.counts);
+        self.frames.push(start, call).unwrap();
     }
 
     /// Adds to the sums of the frame at the place.
@@ -188,7 +196,7 @@ impl<S: Stamp> ThreadStamps<S> {
         self.frames.move_to_top(own, by, back);
     }
 
-    /// Takes the innermost frame and the innermost call. There is one of both.
+    /// Takes the innermost frame with its call. There is one.
     #[inline(always)]
     pub(crate) fn pop(&mut self) -> EndedCall
         requires frames { 1 ≤ length self.old.frames }
@@ -201,12 +209,11 @@ impl<S: Stamp> ThreadStamps<S> {
         ensures counted { result.counts ≡ self.old.calls.counts }
         ensures kept { self.old.spare ≤ self.new.spare }
     {
-        let sums = self.frames.pop().unwrap();
-        let call = self.calls.pop().unwrap();
+        let (sums, call) = self.frames.pop().unwrap();
         EndedCall {
             call,
             sums,
-            counts: self.calls.counts(),
+            counts: self.counts,
         }
     }
 }

@@ -1,11 +1,12 @@
 //! The live threads.
-ghost use Rattle.std.specs.Prelude.{◌≡◌, ◌≤◌, ◌<◌, ◌+◌, ◌*◌, ◌++◌, ◌∷◌, [], ℕ, Some, true, All, IfOk, IfSome, IsOk, OnErr, OnOk, is_some, length, slice_get};
+ghost use Rattle.std.specs.Prelude.{◌≡◌, ◌≤◌, ◌<◌, ◌+◌, ◌*◌, ◌^◌, ◌++◌, ◌∷◌, [], ℕ, Some, true, All, IfOk, IfSome, IsOk, OnErr, OnOk, is_some, length, slice_get};
 ghost use Rattle.std.specs.Borrow.{sem};
 ghost use Rattle.guest_words.specs.ByThread.{numbers, value_of, with_value, without_thread};
 ghost use Rattle.shadow_stack.specs.Frames.{FitsPop, FitsSums, IsPopped, added, new_frame, plus, starts_of};
 ghost use Rattle.shadow_pages.specs.Pages.{HasPlace};
 ghost use Rattle.call_tracker.specs.ThreadCalls.{no_counts};
-ghost use Rattle.stamp_renumber.specs.Returned.{IsReturned};
+ghost use Rattle.stamp_renumber.specs.Counted.{found_added, steps_added, with_calls};
+ghost use Rattle.stamp_renumber.specs.Returned.{IsReturned, returned_by};
 ghost use Rattle.stamp_renumber.specs.Threads.{HasRoom, all_starts, calls_of, frames_of, has_room, own_of, pages_of, spare_of, stamped};
 ghost use Rattle.stamp_renumber.specs.Ticks.{IsRenumbered};
 ghost use Rattle.stamp_renumber.specs.WordRead.{IsWordRead};
@@ -14,7 +15,6 @@ use crate::pages::renew_writes;
 use crate::renumbering::{renumber_threads, sorted_starts};
 use crate::rows::WorkRows;
 use crate::thread_stamps::{EndedCall, Returned, ThreadStamps};
-use call_tracker::ThreadCalls;
 use guest_words::{Addr, ByThread, Tid, Word};
 use shadow_pages::Shadow;
 use shadow_stack::{Frames, Sums};
@@ -22,7 +22,7 @@ use stamp_lanes::Lanes;
 use std::alloc::{AllocError, Global};
 use std::marker::Model;
 
-/// Live threads, each with its frames, the stamps of its accesses and its calls. A renumbering does not allocate: the threads hold
+/// Live threads, each with its frames and their calls, and the stamps of its accesses. A renumbering does not allocate: the threads hold
 /// work rows for it from the start, and room for the starts of all their frames, `frames` of them and `marks` more. No call but
 /// `begin` lowers the room for frames and their marks.
 #[derive(Drop)]
@@ -50,7 +50,7 @@ impl<S: Lanes> Model for Threads<S> {
 }
 
 impl<S: Lanes> Threads<S> {
-    ghost use Rattle.stamp_renumber.specs.LentThread.{LendsCalls, LendsStamps};
+    ghost use Rattle.stamp_renumber.specs.LentThread.{LendsStamps};
 
     /// No thread.
     pub fn new(alloc: Global) -> Result<Threads<S>, AllocError>
@@ -126,7 +126,7 @@ impl<S: Lanes> Threads<S> {
         Ok(())
     }
 
-    /// Whether there is room for one more frame of the thread, for its mark and for its call.
+    /// Whether there is room for one more frame of the thread with its call, and for its mark.
     #[inline(always)]
     pub fn has_room(&self, tid: Tid) -> bool
         requires { is_some (value_of self.now.threads tid) ≡ true }
@@ -136,7 +136,7 @@ impl<S: Lanes> Threads<S> {
         self.marks > 0 && self.threads.value(tid).has_room()
     }
 
-    /// Makes the room for one more frame of the thread, for its mark and for its call.
+    /// Makes the room for one more frame of the thread with its call, and for its mark.
     #[inline(always)]
     pub fn reserve(&mut self, tid: Tid) -> Result<(), AllocError>
         requires lives { is_some (value_of self.old.threads tid) ≡ true }
@@ -309,6 +309,7 @@ impl<S: Lanes> Threads<S> {
         requires { is_some (value_of self.now.threads tid) ≡ true }
         ensures { result.now ≡ record {
           list = frames_of self.now.threads tid;
+          calls = (calls_of self.now.threads tid).list;
           spare = spare_of self.now.threads tid;
         } }
     {
@@ -335,15 +336,39 @@ impl<S: Lanes> Threads<S> {
         thread.shadow_mut()
     }
 
-    /// The thread's calls, for writing.
+    /// Counts steps of the thread.
     #[inline(always)]
-    pub fn calls_mut(&mut self, tid: Tid) -> &mut ThreadCalls
-        requires { is_some (value_of self.old.threads tid) ≡ true }
-        ensures* writes_back { sem 𝓛 (LendsCalls S.row S.Stamp self.entry tid result) }
-        ensures value { result.now ≡ calls_of self.old.threads tid }
+    pub fn add_steps(&mut self, tid: Tid, steps: u64)
+        requires lives { is_some (value_of self.old.threads tid) ≡ true }
+        requires fits { (calls_of self.old.threads tid).counts.steps + steps < 2 ^ 64 }
+        ensures { self.new ≡ with_calls self.old tid (steps_added steps (calls_of self.old.threads tid)) }
     {
         let thread = self.threads.get_mut(tid).unwrap();
-        thread.calls_mut()
+        thread.add_steps(steps);
+    }
+
+    /// Counts the words that a read of the thread found written by another thread, and by the kernel.
+    #[inline(always)]
+    pub fn add_found(&mut self, tid: Tid, thread: u64, kernel: u64)
+        requires lives { is_some (value_of self.old.threads tid) ≡ true }
+        requires thread { (calls_of self.old.threads tid).counts.thread + thread < 2 ^ 64 }
+        requires kernel { (calls_of self.old.threads tid).counts.kernel + kernel < 2 ^ 64 }
+        ensures { self.new ≡ with_calls self.old tid (found_added thread kernel (calls_of self.old.threads tid)) }
+    {
+        let reader = self.threads.get_mut(tid).unwrap();
+        reader.add_found(thread, kernel);
+    }
+
+    /// How many calls a return of the thread to the target ends.
+    #[inline(always)]
+    pub fn ending(&mut self, tid: Tid, target: Addr) -> usize
+        requires { is_some (value_of self.old.threads tid) ≡ true }
+        ensures count { result ≡ returned_by target (calls_of self.old.threads tid) }
+        ensures within { result ≤ length (calls_of self.old.threads tid).list }
+        ensures same { self.new ≡ self.old }
+    {
+        let thread = self.threads.get_mut(tid).unwrap();
+        thread.ending(target)
     }
 
     /// Gives all stamps their new numbers, and says how many frames there are.

@@ -5,7 +5,8 @@ use Rattle.shadow_stack.proofs.frames.restart.Given as goal
 
 abbrev pub invariant-loop-i : goal.invariant-loop-i
 invariant-loop-i g l = record {
-  long : length l.frames.items ≡ length l.fn.frames.items;
-  spare : l.frames.spare ≡ l.fn.frames.spare;
-  list : map (seen (λ x. g.S.Stamp.number_of x.start) (λ x. x.sums)) l.frames.items ≡ restarted (take l.i (map g.S.Stamp.number_of l.starts)) (map (seen (λ x. g.S.Stamp.number_of x.start) (λ x. x.sums)) l.fn.frames.items);
+  long : length l.entries.items ≡ length l.fn.entries.items;
+  spare : l.entries.spare ≡ l.fn.entries.spare;
+  calls : map (λ x. x.call) l.entries.items ≡ map (λ x. x.call) l.fn.entries.items;
+  list : map (seen (λ x. g.S.Stamp.number_of x.start) (λ x. x.sums)) l.entries.items ≡ restarted (take l.i (map g.S.Stamp.number_of l.starts)) (map (seen (λ x. g.S.Stamp.number_of x.start) (λ x. x.sums)) l.fn.entries.items);
 }

@@ -1,6 +1,6 @@
 use Rattle.std.proofs.Common.{◌≡◌, ◌≤◌, ℕ, List, Option, length}
 use Rattle.std.specs.List.{AllWithin}
-use Rattle.call_tracker.specs.Private.Missed.{AreMissed}
+use Rattle.call_tracker.specs.Missed.{AreMissed}
 use Rattle.call_tracker.proofs.missed.Missed.settle.Given as goal
 
 abbrev pub invariant-loop-i : goal.invariant-loop-i

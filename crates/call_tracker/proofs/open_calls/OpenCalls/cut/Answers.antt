@@ -1,6 +1,6 @@
 use Rattle.std.proofs.Common.{◌∙◌, ◌-◌, ap, map, subst, sym}
 use Rattle.std.proofs.lemmas.List.{take-map}
-use Rattle.call_tracker.specs.Private.Missed.{AreMissed}
+use Rattle.call_tracker.specs.Missed.{AreMissed}
 use Rattle.call_tracker.proofs.open_calls.OpenCalls.cut.Goals as goal
 
 pub invariant_of-self : goal.invariant_of-self

@@ -43,8 +43,8 @@ pub read-found-requires-clause-sums : goal.read-found-requires-clause-sums
 read-found-requires-clause-sums g c =
     (may_read_there g.S.Stamp.MAX c.args.tid c.args.first c.args.count _ _ c.cover_own.new.threads c.self.view_is c.requires c.in_ok-cover_own.ensures.changed c.in_ok-cover_own.ensures.stamps).sums
 
-pub calls_mut-calls-requires : goal.calls_mut-calls-requires
-calls_mut-calls-requires g c =
+pub add_found-requires-clause-lives : goal.add_found-requires-clause-lives
+add_found-requires-clause-lives g c =
     found_lives g.S.Stamp.MAX c.args.tid c.args.first c.args.count _ _ c.cover_own.new.threads c.self.view_is c.requires c.in_ok-cover_own.ensures.changed c.in_ok-cover_own.ensures.stamps
     c.read-found.new.threads c.read-found.result.thread c.read-found.result.kernel _ c.read-found.ensures.read
 
@@ -56,8 +56,7 @@ add_found-requires-clause-thread g c =
     let few : c.read-found.result.thread ≤ c.args.count = omega (arith, c.read-found.ensures.thread, count_few is_by_thread own write marks c.args.first c.args.count) in
     let few' : c.read-found.result.kernel ≤ c.args.count = omega (arith, c.read-found.ensures.kernel, count_few is_by_kernel own write marks c.args.first c.args.count) in
     (found_fits g.S.Stamp.MAX c.args.tid c.args.first c.args.count _ _ c.cover_own.new.threads c.self.view_is c.requires c.in_ok-cover_own.ensures.changed c.in_ok-cover_own.ensures.stamps
-    c.read-found.new.threads c.read-found.result.thread c.read-found.result.kernel _ c.read-found.ensures.read
-    c.calls_mut-calls.result.now c.calls_mut-calls.ensures.value few few').0
+    c.read-found.new.threads c.read-found.result.thread c.read-found.result.kernel _ c.read-found.ensures.read few few').0
 
 pub add_found-requires-clause-kernel : goal.add_found-requires-clause-kernel
 add_found-requires-clause-kernel g c =
@@ -67,8 +66,7 @@ add_found-requires-clause-kernel g c =
     let few : c.read-found.result.thread ≤ c.args.count = omega (arith, c.read-found.ensures.thread, count_few is_by_thread own write marks c.args.first c.args.count) in
     let few' : c.read-found.result.kernel ≤ c.args.count = omega (arith, c.read-found.ensures.kernel, count_few is_by_kernel own write marks c.args.first c.args.count) in
     (found_fits g.S.Stamp.MAX c.args.tid c.args.first c.args.count _ _ c.cover_own.new.threads c.self.view_is c.requires c.in_ok-cover_own.ensures.changed c.in_ok-cover_own.ensures.stamps
-    c.read-found.new.threads c.read-found.result.thread c.read-found.result.kernel _ c.read-found.ensures.read
-    c.calls_mut-calls.result.now c.calls_mut-calls.ensures.value few few').1
+    c.read-found.new.threads c.read-found.result.thread c.read-found.result.kernel _ c.read-found.ensures.read few few').1
 
 pub returns-clause-table : goal.returns-clause-table
 returns-clause-table g c =
@@ -77,7 +75,7 @@ returns-clause-table g c =
     ∙ g.met.S.Stamp.number_back c.self.inside.counter (advance_here g.S.Stamp.MAX (Read c.args.tid c.args.first c.args.count) _ _ c.self.view_is c.requires).within in
     read_whole g.S.Stamp.MAX c.args.tid c.args.first c.args.count _ _ c.cover_own.new.threads c.self.view_is c.requires c.in_ok-cover_own.ensures.changed c.in_ok-cover_own.ensures.stamps
     c.read-found.new.threads c.read-found.result.thread c.read-found.result.kernel _ c.read-found.ensures.read
-    c.calls_mut-calls.result.now c.add_found.new.self _ c.calls_mut-calls.ensures.value number c.read-found.ensures.thread c.read-found.ensures.kernel c.add_found.ensures (omega (arith, c.from.ensures))
+    c.add_found.new.self _ number c.read-found.ensures.thread c.read-found.ensures.kernel c.add_found.ensures (omega (arith, c.from.ensures))
 
 pub returns-clause-pages : goal.returns-clause-pages
 returns-clause-pages g c = λ own.
@@ -93,7 +91,7 @@ returns-clause-pages g c = λ own.
       writes = λ w. refl;
       marks = λ w. refl;
       accesses = λ u w.
-          calls_alike c.read-found.new.threads t c.add_found.new.self (lives_changed mid c.read-found.new.threads t _ _ (lives_changed old mid t _ _ lives roomy) read.changed) u w
+          calls_alike c.read-found.new.threads c.add_found.new.self t _ (lives_changed mid c.read-found.new.threads t _ _ (lives_changed old mid t _ _ lives roomy) read.changed) c.add_found.ensures u w
           ∙ changed_alike mid c.read-found.new.threads t _ _ (lives_changed old mid t _ _ lives roomy) read.changed read.covered u w
           ∙ changed_alike old mid t _ _ lives roomy (λ v. ap (λ ps. covers ps v) kept) u w;
     })

@@ -35,8 +35,8 @@ read_at-found-requires-clause-sums g c =
 pub read_at-found-requires-clause-own : goal.read_at-found-requires-clause-own
 read_at-found-requires-clause-own g c = c.requires.own ∙ ap (λ (k : State). stamp_at (pages_of k.live.threads c.args.tid) c.args.w) (sym c.self.view_is)
 
-pub calls_mut-calls-requires : goal.calls_mut-calls-requires
-calls_mut-calls-requires g c =
+pub add_found-requires-clause-lives : goal.add_found-requires-clause-lives
+add_found-requires-clause-lives g c =
     let lives = lives_here _ c.args.tid (alive_here g.S.Stamp.MAX (Read c.args.tid c.args.w 1) c.args.tid _ _ c.self.view_is c.requires.may c.requires.may.formed.0.0.0) in
     found_lives g.S.Stamp.MAX c.args.tid c.args.w 1 _ _ c.self.inside.threads c.self.view_is c.requires.may (not_changed c.self.inside.threads c.args.tid lives) (λ v. refl)
     c.read_at-found.new.threads c.read_at-found.result.thread c.read_at-found.result.kernel _ c.read_at-found.ensures.read
@@ -51,8 +51,7 @@ add_found-requires-clause-thread g c =
     let few' : c.read_at-found.result.kernel ≤ 1 = omega (arith, c.read_at-found.ensures.kernel, count_few is_by_kernel own write marks c.args.w 1) in
     let lives = lives_here _ t (alive_here g.S.Stamp.MAX (Read t c.args.w 1) t _ _ c.self.view_is c.requires.may c.requires.may.formed.0.0.0) in
     (found_fits g.S.Stamp.MAX t c.args.w 1 _ _ c.self.inside.threads c.self.view_is c.requires.may (not_changed c.self.inside.threads t lives) (λ v. refl)
-    c.read_at-found.new.threads c.read_at-found.result.thread c.read_at-found.result.kernel _ c.read_at-found.ensures.read
-    c.calls_mut-calls.result.now c.calls_mut-calls.ensures.value few few').0
+    c.read_at-found.new.threads c.read_at-found.result.thread c.read_at-found.result.kernel _ c.read_at-found.ensures.read few few').0
 
 pub add_found-requires-clause-kernel : goal.add_found-requires-clause-kernel
 add_found-requires-clause-kernel g c =
@@ -64,8 +63,7 @@ add_found-requires-clause-kernel g c =
     let few' : c.read_at-found.result.kernel ≤ 1 = omega (arith, c.read_at-found.ensures.kernel, count_few is_by_kernel own write marks c.args.w 1) in
     let lives = lives_here _ t (alive_here g.S.Stamp.MAX (Read t c.args.w 1) t _ _ c.self.view_is c.requires.may c.requires.may.formed.0.0.0) in
     (found_fits g.S.Stamp.MAX t c.args.w 1 _ _ c.self.inside.threads c.self.view_is c.requires.may (not_changed c.self.inside.threads t lives) (λ v. refl)
-    c.read_at-found.new.threads c.read_at-found.result.thread c.read_at-found.result.kernel _ c.read_at-found.ensures.read
-    c.calls_mut-calls.result.now c.calls_mut-calls.ensures.value few few').1
+    c.read_at-found.new.threads c.read_at-found.result.thread c.read_at-found.result.kernel _ c.read_at-found.ensures.read few few').1
 
 pub returns-clause-table : goal.returns-clause-table
 returns-clause-table g c =
@@ -76,7 +74,7 @@ returns-clause-table g c =
     let lives = lives_here _ t (alive_here g.S.Stamp.MAX (Read t c.args.w 1) t _ _ c.self.view_is c.requires.may c.requires.may.formed.0.0.0) in
     read_whole g.S.Stamp.MAX t c.args.w 1 _ _ c.self.inside.threads c.self.view_is c.requires.may (not_changed c.self.inside.threads t lives) (λ v. refl)
     c.read_at-found.new.threads c.read_at-found.result.thread c.read_at-found.result.kernel _ c.read_at-found.ensures.read
-    c.calls_mut-calls.result.now c.add_found.new.self _ c.calls_mut-calls.ensures.value number c.read_at-found.ensures.thread c.read_at-found.ensures.kernel c.add_found.ensures (omega arith)
+    c.add_found.new.self _ number c.read_at-found.ensures.thread c.read_at-found.ensures.kernel c.add_found.ensures (omega arith)
 
 pub returns-clause-pages : goal.returns-clause-pages
 returns-clause-pages g c =
@@ -88,6 +86,6 @@ returns-clause-pages g c =
       writes = λ w. refl;
       marks = λ w. refl;
       accesses = λ u w.
-          calls_alike c.read_at-found.new.threads t c.add_found.new.self (lives_changed old c.read_at-found.new.threads t _ _ lives read.changed) u w
+          calls_alike c.read_at-found.new.threads c.add_found.new.self t _ (lives_changed old c.read_at-found.new.threads t _ _ lives read.changed) c.add_found.ensures u w
           ∙ changed_alike old c.read_at-found.new.threads t _ _ lives read.changed read.covered u w;
     })

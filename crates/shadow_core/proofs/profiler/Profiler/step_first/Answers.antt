@@ -25,15 +25,15 @@ pub advance-requires-clause-few : goal.advance-requires-clause-few
 advance-requires-clause-few g c =
     (may_advance g.S.Stamp.MAX _ _ (subst (λ (k : State). MayTake (StandsFor g.S.Stamp.MAX) k (Step c.args.tid)) (sym c.self.view_is) c.requires)).few
 
-pub calls_mut-requires : goal.calls_mut-requires
-calls_mut-requires g c =
+pub add_steps-requires-clause-lives : goal.add_steps-requires-clause-lives
+add_steps-requires-clause-lives g c =
     let may = subst (λ (k : State). MayTake (StandsFor g.S.Stamp.MAX) k (Step c.args.tid)) (sym c.self.view_is) c.requires in
     lives_after g.S.Stamp.MAX c.args.tid c.is_switch.result _ _ may c.advance.ensures
 
-pub add_steps-requires : goal.add_steps-requires
-add_steps-requires g c =
+pub add_steps-requires-clause-fits : goal.add_steps-requires-clause-fits
+add_steps-requires-clause-fits g c =
     let may = subst (λ (k : State). MayTake (StandsFor g.S.Stamp.MAX) k (Step c.args.tid)) (sym c.self.view_is) c.requires in
-    step_fits g.S.Stamp.MAX c.args.tid c.is_switch.result _ c.calls_mut.result.now _ may c.advance.ensures c.calls_mut.ensures.value
+    step_fits g.S.Stamp.MAX c.args.tid c.is_switch.result _ _ may c.advance.ensures
 
 pub invariant_of-self : goal.invariant_of-self
 invariant_of-self g c = record { marked = λ w h. c.self.invariant.marked w (sym (c.advance.ensures.covered w) ∙ h) }
@@ -41,8 +41,8 @@ invariant_of-self g c = record { marked = λ w h. c.self.invariant.marked w (sym
 pub returns-clause-table : goal.returns-clause-table
 returns-clause-table g c =
     let may = subst (λ (k : State). MayTake (StandsFor g.S.Stamp.MAX) k (Step c.args.tid)) (sym c.self.view_is) c.requires in
-    stepped g.S.Stamp.MAX c.args.tid c.is_switch.result _ c.calls_mut.result.now c.add_steps.new.self _ may
-    c.is_switch.ensures c.advance.ensures c.calls_mut.ensures.value c.add_steps.ensures
+    stepped g.S.Stamp.MAX c.args.tid c.is_switch.result _ c.add_steps.new.self _ may
+    c.is_switch.ensures c.advance.ensures c.add_steps.ensures
     ∙ ap (λ (k : State). table_after (bounded_tick g.S.Stamp.MAX) (Step c.args.tid) (table_of_state k)) c.self.view_is
 
 pub returns-clause-pages : goal.returns-clause-pages
@@ -53,6 +53,6 @@ returns-clause-pages g c =
       writes = c.advance.ensures.covered;
       marks = λ w. refl;
       accesses = λ u w.
-          calls_alike c.advance.new.threads c.args.tid c.add_steps.new.self lives u w
+          calls_alike c.advance.new.threads c.add_steps.new.self c.args.tid _ lives c.add_steps.ensures u w
           ∙ advanced_alike g.S.Stamp.MAX c.is_switch.result _ _ c.advance.ensures u w;
     })

@@ -8,19 +8,19 @@ use Rattle.shadow_core.proofs.SamePages.{calls_alike, seen_same}
 use Rattle.shadow_core.proofs.Stepped.{may_step_once, steps_fit, steps_made}
 use Rattle.shadow_core.proofs.profiler.Profiler.steps_on.Goals as goal
 
-pub calls_mut-requires : goal.calls_mut-requires
-calls_mut-requires g c =
+pub add_steps-requires-clause-lives : goal.add_steps-requires-clause-lives
+add_steps-requires-clause-lives g c =
     let may = subst (λ (k : State). MayStepBy (StandsFor g.S.Stamp.MAX) (is_within g.S.Stamp.MAX) k c.args.tid c.args.count) (sym c.self.view_is) c.requires.may in
     lives_here _ c.args.tid (alive_for_step g.S.Stamp.MAX c.args.tid _ (may_step_once g.S.Stamp.MAX c.args.tid c.args.count _ may c.requires.some))
 
-pub add_steps-requires : goal.add_steps-requires
-add_steps-requires g c =
-    (steps_fit g.S.Stamp.MAX c.args.tid c.args.count _ _ c.calls_mut.result.now c.self.view_is c.requires.may c.requires.some c.calls_mut.ensures.value).0
+pub add_steps-requires-clause-fits : goal.add_steps-requires-clause-fits
+add_steps-requires-clause-fits g c =
+    (steps_fit g.S.Stamp.MAX c.args.tid c.args.count _ _ c.self.view_is c.requires.may c.requires.some).0
 
 pub returns-clause-table : goal.returns-clause-table
 returns-clause-table g c =
-    steps_made g.S.Stamp.MAX c.args.tid c.args.count _ _ c.calls_mut.result.now c.add_steps.new.self _ c.self.view_is c.requires.may c.requires.some
-    c.calls_mut.ensures.value c.requires.runs c.add_steps.ensures refl
+    steps_made g.S.Stamp.MAX c.args.tid c.args.count _ _ c.add_steps.new.self _ c.self.view_is c.requires.may c.requires.some
+    c.requires.runs c.add_steps.ensures refl
 
 pub returns-clause-pages : goal.returns-clause-pages
 returns-clause-pages g c =
@@ -28,11 +28,11 @@ returns-clause-pages g c =
     seen_same c.self.view_is (record {
       writes = λ w. refl;
       marks = λ w. refl;
-      accesses = calls_alike c.self.inside.threads c.args.tid c.add_steps.new.self
-          (lives_here _ c.args.tid (alive_for_step g.S.Stamp.MAX c.args.tid _ (may_step_once g.S.Stamp.MAX c.args.tid c.args.count _ may c.requires.some)));
+      accesses = calls_alike c.self.inside.threads c.add_steps.new.self c.args.tid _
+          (lives_here _ c.args.tid (alive_for_step g.S.Stamp.MAX c.args.tid _ (may_step_once g.S.Stamp.MAX c.args.tid c.args.count _ may c.requires.some))) c.add_steps.ensures;
     })
 
 pub overflow_add-self : goal.overflow_add-self
 overflow_add-self g c =
-    let fits = steps_fit g.S.Stamp.MAX c.args.tid c.args.count _ _ c.calls_mut.result.now c.self.view_is c.requires.may c.requires.some c.calls_mut.ensures.value in
+    let fits = steps_fit g.S.Stamp.MAX c.args.tid c.args.count _ _ c.self.view_is c.requires.may c.requires.some in
     omega (arith, fits.1)

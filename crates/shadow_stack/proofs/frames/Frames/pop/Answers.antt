@@ -1,16 +1,21 @@
 use Rattle.std.proofs.Common.{◌≡◌, suc, ◌-◌, ◌∷◌, [], length, map, refl, ap, subst, sym, ◌∙◌, arith}
 use Rattle.std.proofs.lemmas.List.{length-map, map-append}
-use Rattle.shadow_stack.specs.declared.frames.Frame.{Frame as Kept}
+use Rattle.call_tracker.specs.Missed.{AreMissed}
+use Rattle.shadow_stack.specs.declared.frames.Entry.{Entry as Kept}
 use Rattle.shadow_stack.specs.Frames.{Frame, Stack, FitsPop, IsRising}
-use Rattle.shadow_stack.proofs.Places.{seen, last_added, none_added, below_fits, rising_front}
+use Rattle.shadow_stack.proofs.Places.{seen, left_seen, last_added, none_added, below_fits, rising_front}
 use Rattle.shadow_stack.proofs.frames.Frames.pop.Goals as goal
 use Rattle.shadow_stack.proofs.frames.Frames.pop.Goals.{then-depth-gt0, else-depth-gt0}
 
 pub invariant_of-self-then-depth-gt0 : goal.invariant_of-self-then-depth-gt0
 invariant_of-self-then-depth-gt0 g c =
     let start = g.S.Stamp.number_of c.in_ok-top.top.start in
-    let starts_are = ap (map (λ x. g.S.Stamp.number_of x.start)) c.in_ok-top.ensures.items ∙ map-append (λ x. g.S.Stamp.number_of x.start) c.pop.new.self.items (c.in_ok-top.top ∷ []) in
-    rising_front (map (λ x. g.S.Stamp.number_of x.start) c.pop.new.self.items) start (subst IsRising starts_are c.self.invariant)
+    let left = c.pop.new.self.items in
+    let starts_are = ap (map (λ x. g.S.Stamp.number_of x.start)) c.in_ok-top.ensures.items ∙ map-append (λ x. g.S.Stamp.number_of x.start) left (c.in_ok-top.top ∷ []) in (
+      rising_front (map (λ x. g.S.Stamp.number_of x.start) left) start (subst IsRising starts_are c.self.invariant.0),
+      subst (λ bs. AreMissed bs c.keep.new.self) (left_seen (λ x. x.call.back) c.self.inside.entries.items left c.in_ok-top.top c.len-depth.result c.in_ok-top.ensures.items c.len-depth.ensures)
+          (c.keep.ensures (map (λ x. x.call.back) c.self.inside.entries.items) c.self.invariant.1),
+    )
 
 pub add-requires-clause-fits : goal.add-requires-clause-fits
 add-requires-clause-fits g c =

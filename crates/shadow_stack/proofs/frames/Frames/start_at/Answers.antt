@@ -8,7 +8,7 @@ use Rattle.shadow_stack.proofs.frames.Frames.start_at.Goals as goal
 
 pub returns-clause-start : goal.returns-clause-start
 returns-clause-start g c =
-    let items = c.self.inside.frames.items in
+    let items = c.self.inside.entries.items in
     let starts_are = starts_seen (λ x. g.S.Stamp.number_of x.start) (λ x. x.sums) items ∙ ap (λ (s : Stack). starts_of s.list) c.self.view_is in
     let within : c.args.i < length items = omega (arith, c.requires, length-map items (seen (λ x. g.S.Stamp.number_of x.start) (λ x. x.sums)), ap (λ (s : Stack). length s.list) c.self.view_is) in
     let read = c.index-as_slice-i.result in
@@ -20,5 +20,5 @@ returns-clause-start g c =
 
 pub returns-clause-rising : goal.returns-clause-rising
 returns-clause-rising g c =
-    let items = c.self.inside.frames.items in
-    subst IsRising (starts_seen (λ x. g.S.Stamp.number_of x.start) (λ x. x.sums) items ∙ ap (λ (s : Stack). starts_of s.list) c.self.view_is) c.self.invariant
+    let items = c.self.inside.entries.items in
+    subst IsRising (starts_seen (λ x. g.S.Stamp.number_of x.start) (λ x. x.sums) items ∙ ap (λ (s : Stack). starts_of s.list) c.self.view_is) c.self.invariant.0

@@ -1,4 +1,4 @@
-use Rattle.std.proofs.Common.{map, refl, sym, subst, All}
+use Rattle.std.proofs.Common.{map, sym, subst, All}
 use Rattle.std.specs.Prelude.{Contains}
 use Rattle.shadow_stack.specs.Frames.{starts_of}
 use Rattle.stamp_renumber.specs.Renumbered.{IsThreadRenumbered}
@@ -11,10 +11,10 @@ renew_frames-requires-clause-among g c =
 
 pub returns-clause-thread : goal.returns-clause-thread
 returns-clause-thread g c =
-    subst (λ (s : Stamped). IsThreadRenumbered (map g.S.Stamp.number_of c.args.starts.now) c.args.writes.now.pages s (record { frames = c.renew_frames.new.frames.list; spare = c.renew_frames.new.frames.spare; pages = c.renew_accesses.new.shadow.pages; calls = c.self.inside.calls })) c.self.view_is (record {
+    subst (λ (s : Stamped). IsThreadRenumbered (map g.S.Stamp.number_of c.args.starts.now) c.args.writes.now.pages s (record { frames = c.renew_frames.new.frames.list; spare = c.renew_frames.new.frames.spare; pages = c.renew_accesses.new.shadow.pages; calls = record { list = c.renew_frames.new.frames.calls; counts = c.self.inside.counts } })) c.self.view_is (record {
       frames = c.renew_frames.ensures.list;
       spare = c.renew_frames.ensures.spare;
       stamps = c.renew_accesses.ensures.stamps;
       covered = c.renew_accesses.ensures.covered;
-      calls = refl;
+      calls = λ i. record { list = c.renew_frames.ensures.calls i; counts = c.self.inside.counts };
     })

@@ -28,16 +28,6 @@ push-requires-clause-room g c =
     let here : value_of xs t ≡ Some old = sym c.get_mut.ensures.found ∙ ap option_copied_mut c.unwrap-thread.ensures in
     omega (arith, spare_was xs threads is t old here, c.requires.room.0)
 
-pub push-requires-clause-call : goal.push-requires-clause-call
-push-requires-clause-call g c =
-    let xs = c.self.inside.threads.list in
-    let threads = c.args.self.now.threads in
-    let is : xs ≡ threads = ap (λ (l : Live). l.threads) c.self.view_is in
-    let t = c.args.tid in
-    let old : Stamped = c.unwrap-thread.result.now in
-    let here : value_of xs t ≡ Some old = sym c.get_mut.ensures.found ∙ ap option_copied_mut c.unwrap-thread.ensures in
-    omega (arith, ap (λ (k : Calls). k.spare) (calls_were xs threads is t old here), c.requires.room.1)
-
 pub invariant_of-self : goal.invariant_of-self
 invariant_of-self g c =
     let xs = c.self.inside.threads.list in
@@ -46,7 +36,7 @@ invariant_of-self g c =
     let t = c.args.tid in
     let old : Stamped = c.unwrap-thread.result.now in
     let here : value_of xs t ≡ Some old = sym c.get_mut.ensures.found ∙ ap option_copied_mut c.unwrap-thread.ensures in
-    let some : 1 ≤ c.args.self.now.marks = c.requires.room.2 in
+    let some : 1 ≤ c.args.self.now.marks = c.requires.room.1 in
     let marks : c.self.inside.marks ≡ c.args.self.now.marks = ap (λ (l : Live). l.marks) c.self.view_is in
     let long : length c.push.new.self.frames ≡ length old.frames + 1 = ap length c.push.ensures.frames ∙ length_push old.frames (new_frame (g.S.Stamp.number_of c.args.start)) in
     kept_changed xs t old c.push.new.self c.self.inside.frames c.self.inside.marks _ _ _ _ c.self.invariant here (omega (arith, long)) (omega (arith, some, marks))

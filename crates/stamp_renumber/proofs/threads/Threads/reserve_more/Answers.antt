@@ -36,8 +36,7 @@ returns-clause-room g c =
     let some : 1 ≤ c.reserve_mark.new.self.marks = c.in_ok-reserve_mark.ensures.room in
     let marks : c.self.inside.marks ≡ c.reserve_mark.new.self.marks = ap (λ (l : Live). l.marks) c.self.view_is in
     let spare = spare_is xs threads is t old here c.reserve.new.self in
-    let calls = ap (λ (k : Calls). k.spare) (calls_are xs threads is t old here c.reserve.new.self) in
-    on_ok_weaker c.reserve.result (λ one. (omega (arith, one.0, spare), omega (arith, one.1, calls), omega (arith, some, marks))) c.reserve.ensures.room
+    on_ok_weaker c.reserve.result (λ one. (omega (arith, one, spare), omega (arith, some, marks))) c.reserve.ensures.room
 
 pub returns-clause-threads : goal.returns-clause-threads
 returns-clause-threads g c =
@@ -70,7 +69,7 @@ returns-clause-list g c =
     let t = c.args.tid in
     let old : Stamped = c.unwrap.result.now in
     let here : value_of xs t ≡ Some old = sym c.get_mut.ensures.found ∙ ap option_copied_mut c.unwrap.ensures in
-    ap (λ (k : Calls). k.list) (calls_are xs threads is t old here c.reserve.new.self) ∙ c.reserve.ensures.list ∙ ap (λ (k : Calls). k.list) (sym (calls_were xs threads is t old here))
+    ap (λ (k : Calls). k.list) (calls_are xs threads is t old here c.reserve.new.self) ∙ ap (λ (k : Calls). k.list) c.reserve.ensures.calls ∙ ap (λ (k : Calls). k.list) (sym (calls_were xs threads is t old here))
 
 pub returns-in_err-reserve_mark-clause-counts : goal.returns-in_err-reserve_mark-clause-counts
 returns-in_err-reserve_mark-clause-counts g c = ap (λ (ys : List (ℕ × Stamped)). (calls_of ys c.args.tid).counts) c.in_err-reserve_mark.ensures.threads
@@ -83,4 +82,4 @@ returns-clause-counts g c =
     let t = c.args.tid in
     let old : Stamped = c.unwrap.result.now in
     let here : value_of xs t ≡ Some old = sym c.get_mut.ensures.found ∙ ap option_copied_mut c.unwrap.ensures in
-    ap (λ (k : Calls). k.counts) (calls_are xs threads is t old here c.reserve.new.self) ∙ c.reserve.ensures.counts ∙ ap (λ (k : Calls). k.counts) (sym (calls_were xs threads is t old here))
+    ap (λ (k : Calls). k.counts) (calls_are xs threads is t old here c.reserve.new.self) ∙ ap (λ (k : Calls). k.counts) c.reserve.ensures.calls ∙ ap (λ (k : Calls). k.counts) (sym (calls_were xs threads is t old here))

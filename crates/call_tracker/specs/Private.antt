@@ -1,2 +1,0 @@
--- What private functions promise one another. No public clause rests on it.
-pub mod Missed
