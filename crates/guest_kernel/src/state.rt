@@ -120,7 +120,8 @@ impl State {
         self.program_break = at;
     }
 
-    /// What holds between calls.
+    /// What holds between calls. Only code that may name a field sees the invariant; a contract outside of this crate that
+    /// promises it (`guest_calls::syscall`) needs this function.
     pub fn holds(&self)
         ensures { IsState self.now }
     {
