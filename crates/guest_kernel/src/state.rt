@@ -120,8 +120,7 @@ impl State {
         self.program_break = at;
     }
 
-    /// What holds between calls. Only code that may name a field sees the invariant; a contract outside of this crate that
-    /// promises it (`guest_calls::syscall`) needs this function.
+    /// What holds between calls.
     pub fn holds(&self)
         ensures { IsState self.now }
     {
