@@ -1,6 +1,6 @@
 -- Instructions that access no memory and link no way back.
 use Rattle.std.proofs.Common.{◌≡◌, ℕ, ◌+◌, ◌%◌, ◌^◌, true, [], ◌∷◌, ◌++◌, Option, Some, IfSome, ap, refl, subst, sym}
-use Rattle.guest_memory.specs.Code.{IsInstructionAt, known_of}
+use Rattle.guest_memory.specs.Code.{IsInstructionAt}
 use Rattle.guest_memory.specs.Memory.{Memory}
 use Rattle.rv_isa.specs.declared.instruction.Instr.{Instr}
 use Rattle.rv_isa.specs.declared.instruction.Instr.TheVariants.{Lui, Auipc, Jal, Jalr, Branch, Load, Store, Immediate, Register, Atomic, Fence, FenceI, Ecall, Ebreak}
@@ -17,24 +17,7 @@ use Rattle.guest_machine.specs.Private.Carrying.{IsStepOf}
 use Rattle.guest_machine.specs.Step.{access_events, jump_events}
 use Rattle.guest_machine.proofs.Carried.{known_is, steps_to}
 
--- such an instruction is no EBREAK, which stands where none is known
-pub plain_known : (i : Instr) → is_plain i ≡ true → known_of i ≡ Some i
-plain_known (Lui rd imm) h = refl
-plain_known (Auipc rd imm) h = refl
-plain_known (Jal rd offset) h = absurd (cc)
-plain_known (Jalr rd base offset) h = absurd (cc)
-plain_known (Branch test left right offset) h = refl
-plain_known (Load kind rd base offset) h = absurd (cc)
-plain_known (Store kind from base offset) h = absurd (cc)
-plain_known (Immediate op rd left imm) h = refl
-plain_known (Register op rd left right) h = refl
-plain_known (Atomic op rd base from order) h = absurd (cc)
-plain_known Fence h = refl
-plain_known FenceI h = refl
-plain_known Ecall h = absurd (cc)
-plain_known Ebreak h = absurd (cc)
-
--- and no call and no return
+-- such an instruction is no call and no return
 pub plain_quiet : (i : Instr) → is_plain i ≡ true → kind_of i ≡ Nothing
 plain_quiet (Lui rd imm) h = refl
 plain_quiet (Auipc rd imm) h = refl
@@ -51,26 +34,10 @@ plain_quiet FenceI h = refl
 plain_quiet Ecall h = absurd (cc)
 plain_quiet Ebreak h = absurd (cc)
 
--- any other than EBREAK is known where it stands
-pub known_but : (i : Instr) → (i ≡ Ebreak → ⊥) → known_of i ≡ Some i
-known_but (Lui rd imm) h = refl
-known_but (Auipc rd imm) h = refl
-known_but (Jal rd offset) h = refl
-known_but (Jalr rd base offset) h = refl
-known_but (Branch test left right offset) h = refl
-known_but (Load kind rd base offset) h = refl
-known_but (Store kind from base offset) h = refl
-known_but (Immediate op rd left imm) h = refl
-known_but (Register op rd left right) h = refl
-known_but (Atomic op rd base from order) h = refl
-known_but Fence h = refl
-known_but FenceI h = refl
-known_but Ecall h = refl
-known_but Ebreak h = absurd (h refl)
-
-pub stands_at : (m : Memory) (at pc : ℕ) (i : Instr) → pc ≡ at → known_of i ≡ Some i → IfSome (known_of i) (IsInstructionAt m at) → IsInstructionAt m pc i
-stands_at m at pc i same known found =
-    subst (λ q. IsInstructionAt m q i) (sym same) (subst (λ (o : Option Instr). IfSome o (IsInstructionAt m at)) known found)
+-- an instruction that is known of a word stands where the thread is
+pub stands_at : (m : Memory) (at pc : ℕ) (known : Option Instr) (i : Instr) → pc ≡ at → known ≡ Some i → IfSome known (IsInstructionAt m at) → IsInstructionAt m pc i
+stands_at m at pc known i same is found =
+    subst (λ q. IsInstructionAt m q i) (sym same) (subst (λ (o : Option Instr). IfSome o (IsInstructionAt m at)) is found)
 
 -- its step does nothing beside
 pub step_plain : (here new : ExecState) (tid : ℕ) (i : Instr) → IsInstructionAt here.memory here.registers.pc i → (Went access.Nothing, new) ≡ effect tid i here

@@ -17,7 +17,7 @@ use crate::Advanced;
 use crate::known::{Reading, carry_out, carry_out_next, carry_out_reading};
 use crate::making::{Made, make_load, make_store};
 use crate::telling::observe_told;
-use guest_memory::{GuestMemory, Reservations, find_word};
+use guest_memory::{Decoded, GuestMemory, Reservations, find_word};
 use guest_words::{Addr, Tid};
 use rv_exec::{Counter, Cpu, Cursor, execute_plain};
 use rv_isa::Instr;
@@ -140,7 +140,7 @@ fn run_page<W: Observer>(
     held: &Reservations,
     tid: Tid,
     first: Addr,
-    code: &[Instr],
+    code: &[Decoded],
     row: &mut StepRow,
     observer: &mut W,
 ) -> Result<Paused, AllocError>
@@ -162,13 +162,16 @@ fn run_page<W: Observer>(
         let Some(word) = pc.word_from(first) else {
             return Ok(Paused::Elsewhere);
         };
-        let Some(instruction) = find_word(first, code, word) else {
+        let Some(decoded) = find_word(first, code, word) else {
             return Ok(Paused::Elsewhere);
         };
-        if execute_plain(pc, cpu, instruction) {
+        if execute_plain(pc, cpu, decoded) {
             row.plain += 1;
             continue;
         }
+        let Some(instruction) = decoded.instruction() else {
+            return Ok(Paused::Elsewhere);
+        };
         match instruction {
             Instr::Store {
                 kind,
@@ -185,7 +188,6 @@ fn run_page<W: Observer>(
                 };
                 return Ok(Paused::MayWrite { instruction });
             }
-            Instr::Ebreak => return Ok(Paused::Elsewhere),
             Instr::Load {
                 kind,
                 rd,

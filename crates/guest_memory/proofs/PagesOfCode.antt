@@ -99,23 +99,6 @@ holds_learned places pages m index holds at word o place even some is inside low
       | inr there ↦ holds w j (sym (known_there places pages place p w there) ∙ known)
     ]
 
--- what an instruction of the page says is that instruction
-pub known_some : (i j : Instr) → known_of i ≡ Some j → Some i ≡ Some j
-known_some (Lui rd imm) j is = is
-known_some (Auipc rd imm) j is = is
-known_some (Jal rd offset) j is = is
-known_some (Jalr rd base offset) j is = is
-known_some (Branch test left right offset) j is = is
-known_some (Load kind rd base offset) j is = is
-known_some (Store kind from base offset) j is = is
-known_some (Immediate op rd left imm) j is = is
-known_some (Register op rd left right) j is = is
-known_some (Atomic op rd base from order) j is = is
-known_some Fence j is = is
-known_some FenceI j is = is
-known_some Ecall j is = is
-known_some Ebreak j is = absurd (cc)
-
 -- ---- bytes of a page are written
 apart : (w at n : ℕ) → w / 1024 ≢ at / 4096 → at % 4096 + n ≤ 4096 → (4 * w + 4 ≤ at) ⊎ (at + n ≤ 4 * w)
 apart w at n differs fits = elim (cases_lt (w / 1024) (at / 4096)) [ inl low ↦ inl (omega (arith, low)) | inr from ↦ inr (omega (arith, from, differs, fits)) ]

@@ -5,6 +5,7 @@ ghost use Rattle.guest_memory.specs.Memory.{Memory};
 ghost use Rattle.guest_memory.specs.Private.CodePages.{AreForgotten};
 ghost use Rattle.rv_isa.specs.declared.instruction.Instr.{Instr};
 
+use crate::Decoded;
 use guest_words::Addr;
 use rv_isa::Instr;
 use std::alloc::{AllocError, Global};
@@ -13,12 +14,11 @@ use std::marker::Model;
 /// How many words a page has.
 pub const PAGE_WORDS: usize = 1024;
 
-/// The code of a page: the page's number, and the instruction of each of its words, where it is known. It takes 8 KiB.
+/// The code of a page: the page's number, and what is known of each of its words. It takes 8 KiB.
 #[derive(Drop)]
 pub struct CodePage {
     number: u32,
-    // EBREAK where none is known: it faults, so that nothing is gained by knowing it
-    instructions: Vec<Instr>,
+    words: Vec<Decoded>,
 }
 
 impl Model for CodePage {
@@ -28,35 +28,24 @@ impl Model for CodePage {
 
     ghost Value = { ℕ × List (Option Instr) };
 
-    ghost view = { λ p. (p.number, map known_of p.instructions.items) };
+    ghost view = { λ p. (p.number, map known_of p.words.items) };
 
-    ghost invariant = { λ p. (p.number < 2 ^ 20) × (length p.instructions.items ≡ 1024) };
+    ghost invariant = { λ p. (p.number < 2 ^ 20) × (length p.words.items ≡ 1024) };
 }
 
-// What an instruction that stands in the code of a page says: EBREAK, that none is known.
+/// What is known of a word of the page that begins at `first`, by the word's place in it; none where the page has no such word.
+/// A page of code lends both its first address and its words.
 #[inline(always)]
-fn known(i: Instr) -> Option<Instr>
-    ensures { result ≡ known_of i }
-{
-    match i {
-        Instr::Ebreak => None,
-        _ => Some(i),
-    }
-}
-
-/// What stands for a word in the code of the page that begins at `first`, by the word's place in it: its instruction, or EBREAK
-/// where none is known. A page of code lends both its first address and its instructions.
-#[inline(always)]
-pub fn find_word(first: Addr, instructions: &[Instr], word: usize) -> Option<Instr>
+pub fn find_word(first: Addr, code: &[Decoded], word: usize) -> Option<Decoded>
     requires first { first % 4096 ≡ 0 }
-    requires whole { length instructions.now ≡ 1024 }
-    ensures { (m : Memory) → IsCodeFrom m first instructions.now
-        → IfSome result (λ i. IfSome (known_of i) (IsInstructionAt m ((first + 4 * word) % 2 ^ 32))) }
+    requires whole { length code.now ≡ 1024 }
+    ensures { (m : Memory) → IsCodeFrom m first code.now
+        → IfSome result (λ d. IfSome (known_of d) (IsInstructionAt m ((first + 4 * word) % 2 ^ 32))) }
 {
     if word >= PAGE_WORDS {
         return None;
     }
-    Some(instructions[word])
+    Some(code[word])
 }
 
 // How many words an address lies behind the begin of a page, modulo 2 ^ 30.
@@ -75,12 +64,9 @@ impl CodePage {
         requires { number < 2 ^ 20 }
         ensures { IfOk result (λ p. p ≡ (number, replicate 1024 None)) }
     {
-        let mut instructions = Vec::new(alloc);
-        instructions.resize(PAGE_WORDS, Instr::Ebreak)?;
-        Ok(CodePage {
-            number,
-            instructions,
-        })
+        let mut words = Vec::new(alloc);
+        words.resize(PAGE_WORDS, Decoded::Unknown)?;
+        Ok(CodePage { number, words })
     }
 
     /// The page's number.
@@ -90,14 +76,14 @@ impl CodePage {
         self.number
     }
 
-    /// Where the page begins, and the instructions of its words.
+    /// Where the page begins, and its words.
     #[inline(always)]
-    pub fn parts(&self) -> (Addr, &[Instr])
+    pub fn parts(&self) -> (Addr, &[Decoded])
         ensures first { result.0 % 4096 ≡ 0 }
         ensures whole { length result.1.now ≡ 1024 }
         ensures code { (m : Memory) → IsCodeOf m self.now → IsCodeFrom m result.0 result.1.now }
     {
-        (self.number << 12, self.instructions.as_slice())
+        (self.number << 12, self.words.as_slice())
     }
 
     /// The instruction at an address, where it lies in the page and is known.
@@ -106,17 +92,17 @@ impl CodePage {
         requires { at % 4 ≡ 0 }
         ensures { (m : Memory) → IsCodeOf m self.now → IfSome result (IsInstructionAt m at) }
     {
-        let (first, instructions) = self.parts();
-        known(find_word(first, instructions, words_behind(first, at))?)
+        let (first, code) = self.parts();
+        find_word(first, code, words_behind(first, at))?.instruction()
     }
 
-    /// Caches the instruction of a word, where it can be known.
+    /// Caches the instruction of a word.
     pub(crate) fn learn(&mut self, word: usize, instruction: Instr)
         requires { word < 1024 }
-        ensures page { self.new ≡ (self.old.0, slice_set self.old.1 word (known_of instruction)) }
+        ensures page { self.new ≡ (self.old.0, slice_set self.old.1 word (Some instruction)) }
         ensures whole { length self.old.1 ≡ 1024 }
     {
-        self.instructions[word] = instruction;
+        self.words[word] = Decoded::of(instruction);
     }
 
     /// Forgets the words from the first up to the end.
@@ -128,18 +114,18 @@ impl CodePage {
         ensures number { self.new.0 ≡ self.old.0 }
         ensures words { AreForgotten first end self.old.1 self.new.1 }
     {
-        forget_words(&mut self.instructions, first, end);
+        forget_words(&mut self.words, first, end);
     }
 }
 
 // Forgets the words from the first up to the end.
-fn forget_words(words: &mut [Instr], first: usize, end: usize)
+fn forget_words(words: &mut [Decoded], first: usize, end: usize)
     requires order { first ≤ end }
     requires inside { end ≤ length words.old }
     ensures length { length words.new ≡ length words.old }
     ensures words { AreForgotten first end (map known_of words.old) (map known_of words.new) }
 {
     for word in first..end {
-        words[word] = Instr::Ebreak;
+        words[word] = Decoded::Unknown;
     }
 }

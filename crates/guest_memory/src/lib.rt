@@ -8,6 +8,7 @@
 mod byte_ranges;
 mod code_cache;
 mod code_page;
+mod decoded;
 mod directory;
 mod memory;
 mod page_ranges;
@@ -16,6 +17,7 @@ mod reservations;
 mod size;
 
 pub use code_page::{CodePage, find_word};
+pub use decoded::Decoded;
 pub use memory::GuestMemory;
 pub use refusal::MemError;
 pub use reservations::Reservations;

@@ -1,5 +1,5 @@
 -- The instructions that can't write to memory, and what it means that one of them was carried out.
-use Rattle.std.specs.Prelude.{◌≡◌, ℕ, Bool, true, false}
+use Rattle.std.specs.Prelude.{◌≡◌, ℕ, Bool, true, false, Option, Some}
 use Rattle.rv_isa.specs.declared.instruction.Instr.{Instr}
 use Rattle.rv_isa.specs.declared.instruction.Instr.TheVariants.{Lui, Auipc, Branch, Store, Immediate, Register, Atomic, Fence, FenceI}
 use Rattle.guest_memory.specs.Memory.{Memory}
@@ -7,6 +7,9 @@ use Rattle.guest_memory.specs.Reserved.{Reserved}
 use Rattle.rv_exec.specs.Registers.{Registers}
 use Rattle.rv_exec.specs.Effects.{effect}
 use Rattle.rv_exec.specs.declared.outcome.Outcome.{Outcome}
+use Rattle.rv_exec.specs.declared.outcome.Outcome.TheVariants.{Fault, Went}
+use Rattle.rv_exec.specs.declared.outcome.Access.TheVariants as access
+use Rattle.guest_words.specs.declared.endings.FaultKind.TheVariants as fault
 
 -- whether an instruction may write to memory or reserve a word of it
 abbrev pub may_write : Instr → Bool
@@ -32,3 +35,17 @@ CarriesOut i memory old outcome new =
     (tid : ℕ) (held : Reserved)
     → effect tid i (record { registers = old; memory = memory; held = held })
     ≡ (outcome, record { registers = new; memory = memory; held = held })
+
+-- ---- a plain instruction of a word that is decoded
+-- The word's instruction is known and plain, and it goes.
+pub record GoesPlainly (known : Option Instr) (old new : Registers) : Type 0 where
+  pub instruction : Instr
+  pub is : known ≡ Some instruction
+  pub plain : is_plain instruction ≡ true
+  pub made : (m : Memory) → CarriesOut instruction m old (Went access.Nothing) new
+
+-- Nothing changes; if the word's instruction is plain, it is a branch to an address that is no multiple of 4.
+pub record StaysPlainly (known : Option Instr) (old new : Registers) : Type 0 where
+  pub kept : new ≡ old
+  pub faults : (i : Instr) → known ≡ Some i → is_plain i ≡ true → (m : Memory)
+      → CarriesOut i m old (Fault fault.JumpAlign) old

@@ -1,5 +1,5 @@
 //! One instruction of a thread.
-ghost use Rattle.std.specs.Prelude.{◌≡◌, ◌+◌, ◌-◌, ◌%◌, ◌^◌, true, false, IfSome, IfNone, is_none};
+ghost use Rattle.std.specs.Prelude.{◌≡◌, ◌+◌, ◌*◌, ◌-◌, ◌%◌, ◌^◌, true, false, Some, IfSome, IfNone, is_none};
 ghost use Rattle.guest_memory.specs.Guest.{memory_of};
 ghost use Rattle.guest_memory.specs.Memory.{Memory};
 ghost use Rattle.guest_memory.specs.Reserved.{HoldAtMost, without_thread};
@@ -8,18 +8,20 @@ ghost use Rattle.rv_exec.specs.Effects.{branched, computed, effect, exec_state_o
 ghost use Rattle.rv_exec.specs.declared.outcome.Access.TheVariants as access;
 ghost use Rattle.rv_exec.specs.declared.outcome.Outcome.TheVariants.{Fault, Went};
 ghost use Rattle.guest_words.specs.declared.endings.FaultKind.TheVariants as fault;
-ghost use Rattle.rv_exec.specs.Operations.{is_taken, add_offset};
-ghost use Rattle.rv_exec.specs.Reading.{CarriesOut, is_plain, may_write};
+ghost use Rattle.rv_exec.specs.Operations.{add_offset, immediate_result, is_taken, register_result};
+ghost use Rattle.rv_exec.specs.Reading.{CarriesOut, GoesPlainly, StaysPlainly, may_write};
+ghost use Rattle.guest_memory.specs.Code.{known_of};
+ghost use Rattle.rv_isa.specs.declared.instruction.Instr.TheVariants.{Auipc, Branch, Immediate, Lui, Register};
 ghost use Rattle.rv_exec.specs.Registers.{Registers, with_pc};
 
 use crate::atomics::{Operands, atomic};
 use crate::loads_and_stores::{load, store};
 use crate::operations::{add_offset, immediate_result, is_taken, register_result};
 use crate::{Access, Counter, Cpu, Outcome};
-use guest_memory::{GuestMemory, Reservations};
+use guest_memory::{Decoded, GuestMemory, Reservations};
 use guest_words::limits::THREADS;
 use guest_words::{Addr, FaultKind, Tid};
-use rv_isa::{Instr, Reg, Test};
+use rv_isa::{ImmOp, Instr, Reg, RegOp, Test};
 
 /// Carries out an instruction of the thread. Fewer than `THREADS` other threads have a reservation.
 #[inline(always)]
@@ -91,10 +93,7 @@ pub fn execute_reading<P: Counter>(
             Some(load(pc, cpu, memory, kind, rd, at))
         }
         Instr::Lui { rd, imm } => Some(compute(pc, cpu, rd, imm << 12)),
-        Instr::Auipc { rd, imm } => {
-            let n = pc.address().wrapping_add(imm << 12);
-            Some(compute(pc, cpu, rd, n))
-        }
+        Instr::Auipc { rd, imm } => Some(from_here(pc, cpu, rd, imm)),
         Instr::Jal { rd, offset } => {
             let target = add_offset(pc.address(), offset);
             Some(jump_and_link(pc, cpu, rd, target))
@@ -109,19 +108,13 @@ pub fn execute_reading<P: Counter>(
             right,
             offset,
         } => Some(branch(pc, cpu, test, left, right, offset)),
-        Instr::Immediate { op, rd, left, imm } => {
-            let n = immediate_result(op, cpu.value(left), imm);
-            Some(compute(pc, cpu, rd, n))
-        }
+        Instr::Immediate { op, rd, left, imm } => Some(immediate(pc, cpu, op, rd, left, imm)),
         Instr::Register {
             op,
             rd,
             left,
             right,
-        } => {
-            let n = register_result(op, cpu.value(left), cpu.value(right));
-            Some(compute(pc, cpu, rd, n))
-        }
+        } => Some(register(pc, cpu, op, rd, left, right)),
         Instr::Fence | Instr::FenceI => Some(pass(pc)),
         Instr::Ecall => Some(Outcome::Syscall),
         Instr::Ebreak => Some(Outcome::Fault {
@@ -131,44 +124,167 @@ pub fn execute_reading<P: Counter>(
 }
 
 /// Carries out an instruction that accesses no memory and links no way back, of a thread whose program counter is `pc`, and says
-/// whether it did: not if it is another one, or a branch that faults. Then nothing changes.
+/// whether it did: not if it is another one or not known, or a branch that faults. Then nothing changes.
 #[inline(always)]
-pub fn execute_plain<P: Counter>(pc: &mut P, cpu: &mut Cpu, i: Instr) -> bool
-    ensures plain { result ≡ true → is_plain i ≡ true }
-    ensures made { result ≡ true → (m : Memory) → CarriesOut i m (with_pc (P.at pc.old) cpu.old)
-        (Went access.Nothing) (with_pc (P.at pc.new) cpu.new) }
-    ensures faults { result ≡ false → is_plain i ≡ true → (m : Memory)
-        → CarriesOut i m (with_pc (P.at pc.old) cpu.old) (Fault fault.JumpAlign) (with_pc (P.at pc.old) cpu.old) }
-    ensures kept { result ≡ false → with_pc (P.at pc.new) cpu.new ≡ with_pc (P.at pc.old) cpu.old }
+pub fn execute_plain<P: Counter>(pc: &mut P, cpu: &mut Cpu, d: Decoded) -> bool
+    ensures goes { result ≡ true
+        → GoesPlainly (known_of d) (with_pc (P.at pc.old) cpu.old) (with_pc (P.at pc.new) cpu.new) }
+    ensures stays { result ≡ false
+        → StaysPlainly (known_of d) (with_pc (P.at pc.old) cpu.old) (with_pc (P.at pc.new) cpu.new) }
 {
-    match i {
-        Instr::Lui { rd, imm } => went(compute(pc, cpu, rd, imm << 12)),
-        Instr::Auipc { rd, imm } => {
-            let n = pc.address().wrapping_add(imm << 12);
-            went(compute(pc, cpu, rd, n))
-        }
-        Instr::Branch {
-            test,
+    match d {
+        Decoded::Lui { rd, imm } => plain_lui(pc, cpu, rd, imm),
+        Decoded::Auipc { rd, imm } => plain_auipc(pc, cpu, rd, imm),
+        Decoded::Beq {
             left,
             right,
             offset,
-        } => went(branch(pc, cpu, test, left, right, offset)),
-        Instr::Immediate { op, rd, left, imm } => {
-            let n = immediate_result(op, cpu.value(left), imm);
-            went(compute(pc, cpu, rd, n))
-        }
-        Instr::Register {
-            op,
+        } => plain_branch(pc, cpu, Test::Eq, left, right, offset),
+        Decoded::Bne {
+            left,
+            right,
+            offset,
+        } => plain_branch(pc, cpu, Test::Ne, left, right, offset),
+        Decoded::Blt {
+            left,
+            right,
+            offset,
+        } => plain_branch(pc, cpu, Test::Lt, left, right, offset),
+        Decoded::Bge {
+            left,
+            right,
+            offset,
+        } => plain_branch(pc, cpu, Test::Ge, left, right, offset),
+        Decoded::Bltu {
+            left,
+            right,
+            offset,
+        } => plain_branch(pc, cpu, Test::Ltu, left, right, offset),
+        Decoded::Bgeu {
+            left,
+            right,
+            offset,
+        } => plain_branch(pc, cpu, Test::Geu, left, right, offset),
+        Decoded::Addi { rd, left, imm } => plain_immediate(pc, cpu, ImmOp::Addi, rd, left, imm),
+        Decoded::Slti { rd, left, imm } => plain_immediate(pc, cpu, ImmOp::Slti, rd, left, imm),
+        Decoded::Sltiu { rd, left, imm } => plain_immediate(pc, cpu, ImmOp::Sltiu, rd, left, imm),
+        Decoded::Xori { rd, left, imm } => plain_immediate(pc, cpu, ImmOp::Xori, rd, left, imm),
+        Decoded::Ori { rd, left, imm } => plain_immediate(pc, cpu, ImmOp::Ori, rd, left, imm),
+        Decoded::Andi { rd, left, imm } => plain_immediate(pc, cpu, ImmOp::Andi, rd, left, imm),
+        Decoded::Slli { rd, left, imm } => plain_immediate(pc, cpu, ImmOp::Slli, rd, left, imm),
+        Decoded::Srli { rd, left, imm } => plain_immediate(pc, cpu, ImmOp::Srli, rd, left, imm),
+        Decoded::Srai { rd, left, imm } => plain_immediate(pc, cpu, ImmOp::Srai, rd, left, imm),
+        Decoded::Add { rd, left, right } => plain_register(pc, cpu, RegOp::Add, rd, left, right),
+        Decoded::Sub { rd, left, right } => plain_register(pc, cpu, RegOp::Sub, rd, left, right),
+        Decoded::Sll { rd, left, right } => plain_register(pc, cpu, RegOp::Sll, rd, left, right),
+        Decoded::Slt { rd, left, right } => plain_register(pc, cpu, RegOp::Slt, rd, left, right),
+        Decoded::Sltu { rd, left, right } => plain_register(pc, cpu, RegOp::Sltu, rd, left, right),
+        Decoded::Xor { rd, left, right } => plain_register(pc, cpu, RegOp::Xor, rd, left, right),
+        Decoded::Srl { rd, left, right } => plain_register(pc, cpu, RegOp::Srl, rd, left, right),
+        Decoded::Sra { rd, left, right } => plain_register(pc, cpu, RegOp::Sra, rd, left, right),
+        Decoded::Or { rd, left, right } => plain_register(pc, cpu, RegOp::Or, rd, left, right),
+        Decoded::And { rd, left, right } => plain_register(pc, cpu, RegOp::And, rd, left, right),
+        Decoded::Mul { rd, left, right } => plain_register(pc, cpu, RegOp::Mul, rd, left, right),
+        Decoded::Mulh { rd, left, right } => plain_register(pc, cpu, RegOp::Mulh, rd, left, right),
+        Decoded::Mulhsu { rd, left, right } => went(register(
+            pc,
+            cpu,
+            RegOp::Mulhsu,
             rd,
             left,
             right,
-        } => {
-            let n = register_result(op, cpu.value(left), cpu.value(right));
-            went(compute(pc, cpu, rd, n))
-        }
-        Instr::Fence | Instr::FenceI => went(pass(pc)),
+        )),
+        Decoded::Mulhu { rd, left, right } => went(register(
+            pc,
+            cpu,
+            RegOp::Mulhu,
+            rd,
+            left,
+            right,
+        )),
+        Decoded::Div { rd, left, right } => plain_register(pc, cpu, RegOp::Div, rd, left, right),
+        Decoded::Divu { rd, left, right } => plain_register(pc, cpu, RegOp::Divu, rd, left, right),
+        Decoded::Rem { rd, left, right } => plain_register(pc, cpu, RegOp::Rem, rd, left, right),
+        Decoded::Remu { rd, left, right } => plain_register(pc, cpu, RegOp::Remu, rd, left, right),
+        Decoded::Fence | Decoded::FenceI => went(pass(pc)),
         _ => false,
     }
+}
+
+// LUI. The functions of plain instructions say only whether it went.
+#[inline(always)]
+fn plain_lui<P: Counter>(pc: &mut P, cpu: &mut Cpu, rd: Reg, imm: u32) -> bool
+    ensures goes { result ≡ true
+        → GoesPlainly (Some (Lui rd imm)) (with_pc (P.at pc.old) cpu.old) (with_pc (P.at pc.new) cpu.new) }
+    ensures stays { result ≡ false
+        → StaysPlainly (Some (Lui rd imm)) (with_pc (P.at pc.old) cpu.old) (with_pc (P.at pc.new) cpu.new) }
+{
+    went(compute(pc, cpu, rd, imm << 12))
+}
+
+// AUIPC.
+#[inline(always)]
+fn plain_auipc<P: Counter>(pc: &mut P, cpu: &mut Cpu, rd: Reg, imm: u32) -> bool
+    ensures goes { result ≡ true
+        → GoesPlainly (Some (Auipc rd imm)) (with_pc (P.at pc.old) cpu.old) (with_pc (P.at pc.new) cpu.new) }
+    ensures stays { result ≡ false
+        → StaysPlainly (Some (Auipc rd imm)) (with_pc (P.at pc.old) cpu.old) (with_pc (P.at pc.new) cpu.new) }
+{
+    went(from_here(pc, cpu, rd, imm))
+}
+
+// A branch.
+#[inline(always)]
+fn plain_branch<P: Counter>(
+    pc: &mut P,
+    cpu: &Cpu,
+    test: Test,
+    left: Reg,
+    right: Reg,
+    offset: i32,
+) -> bool
+    ensures goes { result ≡ true
+        → GoesPlainly (Some (Branch test left right offset)) (with_pc (P.at pc.old) cpu.now) (with_pc (P.at pc.new) cpu.now) }
+    ensures stays { result ≡ false
+        → StaysPlainly (Some (Branch test left right offset)) (with_pc (P.at pc.old) cpu.now) (with_pc (P.at pc.new) cpu.now) }
+{
+    went(branch(pc, cpu, test, left, right, offset))
+}
+
+// An operation on a register and an immediate.
+#[inline(always)]
+fn plain_immediate<P: Counter>(
+    pc: &mut P,
+    cpu: &mut Cpu,
+    op: ImmOp,
+    rd: Reg,
+    left: Reg,
+    imm: i32,
+) -> bool
+    ensures goes { result ≡ true
+        → GoesPlainly (Some (Immediate op rd left imm)) (with_pc (P.at pc.old) cpu.old) (with_pc (P.at pc.new) cpu.new) }
+    ensures stays { result ≡ false
+        → StaysPlainly (Some (Immediate op rd left imm)) (with_pc (P.at pc.old) cpu.old) (with_pc (P.at pc.new) cpu.new) }
+{
+    went(immediate(pc, cpu, op, rd, left, imm))
+}
+
+// An operation on two registers.
+#[inline(always)]
+fn plain_register<P: Counter>(
+    pc: &mut P,
+    cpu: &mut Cpu,
+    op: RegOp,
+    rd: Reg,
+    left: Reg,
+    right: Reg,
+) -> bool
+    ensures goes { result ≡ true
+        → GoesPlainly (Some (Register op rd left right)) (with_pc (P.at pc.old) cpu.old) (with_pc (P.at pc.new) cpu.new) }
+    ensures stays { result ≡ false
+        → StaysPlainly (Some (Register op rd left right)) (with_pc (P.at pc.old) cpu.old) (with_pc (P.at pc.new) cpu.new) }
+{
+    went(register(pc, cpu, op, rd, left, right))
 }
 
 // Whether an instruction went, and accessed nothing.
@@ -204,6 +320,50 @@ fn compute<P: Counter>(pc: &mut P, cpu: &mut Cpu, rd: Reg, n: u32) -> Outcome
 {
     cpu.write(rd, n);
     pass(pc)
+}
+
+// AUIPC.
+#[inline(always)]
+fn from_here<P: Counter>(pc: &mut P, cpu: &mut Cpu, rd: Reg, imm: u32) -> Outcome
+    ensures { (result, with_pc (P.at pc.new) cpu.new)
+        ≡ computed rd (((P.at pc.old) + imm * 2 ^ 12) % 2 ^ 32) (with_pc (P.at pc.old) cpu.old) }
+{
+    let n = pc.address().wrapping_add(imm << 12);
+    compute(pc, cpu, rd, n)
+}
+
+// An operation on a register and an immediate.
+#[inline(always)]
+fn immediate<P: Counter>(
+    pc: &mut P,
+    cpu: &mut Cpu,
+    op: ImmOp,
+    rd: Reg,
+    left: Reg,
+    imm: i32,
+) -> Outcome
+    ensures { (result, with_pc (P.at pc.new) cpu.new)
+        ≡ computed rd (immediate_result op (value cpu.old left) imm) (with_pc (P.at pc.old) cpu.old) }
+{
+    let n = immediate_result(op, cpu.value(left), imm);
+    compute(pc, cpu, rd, n)
+}
+
+// An operation on two registers.
+#[inline(always)]
+fn register<P: Counter>(
+    pc: &mut P,
+    cpu: &mut Cpu,
+    op: RegOp,
+    rd: Reg,
+    left: Reg,
+    right: Reg,
+) -> Outcome
+    ensures { (result, with_pc (P.at pc.new) cpu.new)
+        ≡ computed rd (register_result op (value cpu.old left) (value cpu.old right)) (with_pc (P.at pc.old) cpu.old) }
+{
+    let n = register_result(op, cpu.value(left), cpu.value(right));
+    compute(pc, cpu, rd, n)
 }
 
 // Goes to a target, where that is a multiple of 4.

@@ -18,7 +18,7 @@ use Rattle.guest_machine.specs.Private.Rows.{HasRun, Runs, RunsOn, further_of}
 use Rattle.guest_machine.specs.declared.rows.StepRow.{StepRow}
 use Rattle.guest_machine.specs.Told.{IsInstruction, done_by, steps_of}
 use Rattle.guest_machine.proofs.MadeSteps.{counted, made_grows, made_whole, may_make}
-use Rattle.guest_machine.proofs.PlainSteps.{known_but, plain_known, plain_quiet, stands_at, step_plain}
+use Rattle.guest_machine.proofs.PlainSteps.{plain_quiet, stands_at, step_plain}
 use Rattle.guest_machine.proofs.RowOfSteps.{handed_grows, handed_whole, may_hand, runs_plainly, runs_to}
 use Rattle.guest_machine.proofs.rows.run_page.Goals as goal
 
@@ -37,10 +37,10 @@ steps-preserved-then-execute_plain g c =
     let m = memory_of c.args.memory.now in
     let here = exec_state_of (with_pc c.steps.pc c.steps.cpu) c.args.memory.now c.args.held.now in
     let new = exec_state_of (with_pc c.execute_plain.new.pc c.execute_plain.new.cpu) c.args.memory.now c.args.held.now in
-    let i = c.in-Some-find_word.instruction in
-    let plain = c.execute_plain.ensures.plain c.if-execute_plain.true in
-    let known = stands_at m ((c.args.first + 4 * c.in-Some.word) % 2 ^ 32) c.steps.pc i c.in-Some.ensures (plain_known i plain) (c.in-Some-find_word.ensures m c.requires.code) in
-    let step = step_plain here new tid i known (sym (c.execute_plain.ensures.made c.if-execute_plain.true m tid (reserved_by c.args.held.now))) (plain_quiet i plain) in
+    let goes = c.execute_plain.ensures.goes c.if-execute_plain.true in
+    let i = goes.instruction in
+    let known = stands_at m ((c.args.first + 4 * c.in-Some.word) % 2 ^ 32) c.steps.pc (known_of c.in-Some-find_word.decoded) i c.in-Some.ensures goes.is (c.in-Some-find_word.ensures m c.requires.code) in
+    let step = step_plain here new tid i known (sym (goes.made m tid (reserved_by c.args.held.now))) (plain_quiet i goes.plain) in
     record {
       runs = λ first began most run.
           runs_plainly g.W.Observer.stands (g.W.Observer.fits old) (g.W.Observer.steps_fit old) tid first began most c.steps.row here c.steps.observer
@@ -55,39 +55,39 @@ returns-in-Store-clause-runs g c =
     let old = c.args.observer.now in
     stayed g.W.Observer.stands (g.W.Observer.fits old) c.args.tid c.args.row.now (with_pc c.args.pc.now c.args.cpu.now) old c.steps.row
     (with_pc c.steps.pc c.steps.cpu) (with_pc c.execute_plain.new.pc c.execute_plain.new.cpu) c.args.memory.now c.args.held.now c.steps.observer
-    (c.execute_plain.ensures.kept c.if-execute_plain.false) c.steps.invariant.runs
+    (c.execute_plain.ensures.stays c.if-execute_plain.false).kept c.steps.invariant.runs
 
 pub returns-in-Store-clause-next : goal.returns-in-Store-clause-next
 returns-in-Store-clause-next g c =
     let m = memory_of c.args.memory.now in
-    let i = c.in-Some-find_word.instruction in
-    let at = ap (λ (r : Registers). r.pc) (c.execute_plain.ensures.kept c.if-execute_plain.false) ∙ c.in-Some.ensures in
+    let i = c.in-Some-instruction.instruction in
+    let at = ap (λ (r : Registers). r.pc) (c.execute_plain.ensures.stays c.if-execute_plain.false).kept ∙ c.in-Some.ensures in
     let known = c.in-Some-find_word.ensures m c.requires.code in
-    let stands = subst (λ j. IsInstructionAt m c.execute_plain.new.pc j) c.in-Store.is (stands_at m _ c.execute_plain.new.pc i at (ap known_of c.in-Store.is ∙ ap (λ j. Some j) (sym c.in-Store.is)) known) in
+    let stands = subst (λ j. IsInstructionAt m c.execute_plain.new.pc j) c.in-Store.is (stands_at m _ c.execute_plain.new.pc (known_of c.in-Some-find_word.decoded) i at (sym c.in-Some-instruction.ensures) known) in
     (c.steps-test.true, search (rules, to_z-of_z, stands))
 
-pub returns-in-Ebreak-clause-runs : goal.returns-in-Ebreak-clause-runs
-returns-in-Ebreak-clause-runs g c =
+pub returns-in_default-instruction-clause-runs : goal.returns-in_default-instruction-clause-runs
+returns-in_default-instruction-clause-runs g c =
     let old = c.args.observer.now in
     stayed g.W.Observer.stands (g.W.Observer.fits old) c.args.tid c.args.row.now (with_pc c.args.pc.now c.args.cpu.now) old c.steps.row
     (with_pc c.steps.pc c.steps.cpu) (with_pc c.execute_plain.new.pc c.execute_plain.new.cpu) c.args.memory.now c.args.held.now c.steps.observer
-    (c.execute_plain.ensures.kept c.if-execute_plain.false) c.steps.invariant.runs
+    (c.execute_plain.ensures.stays c.if-execute_plain.false).kept c.steps.invariant.runs
 
 pub make_load-made-requires-clause-known : goal.make_load-made-requires-clause-known
 make_load-made-requires-clause-known g c =
     let m = memory_of c.args.memory.now in
-    let i = c.in-Some-find_word.instruction in
-    let at = ap (λ (r : Registers). r.pc) (c.execute_plain.ensures.kept c.if-execute_plain.false) ∙ c.in-Some.ensures in
+    let i = c.in-Some-instruction.instruction in
+    let at = ap (λ (r : Registers). r.pc) (c.execute_plain.ensures.stays c.if-execute_plain.false).kept ∙ c.in-Some.ensures in
     let known = c.in-Some-find_word.ensures m c.requires.code in
-    let stands = subst (λ j. IsInstructionAt m c.execute_plain.new.pc j) c.in-Load.is (stands_at m _ c.execute_plain.new.pc i at (ap known_of c.in-Load.is ∙ ap (λ j. Some j) (sym c.in-Load.is)) known) in
+    let stands = subst (λ j. IsInstructionAt m c.execute_plain.new.pc j) c.in-Load.is (stands_at m _ c.execute_plain.new.pc (known_of c.in-Some-find_word.decoded) i at (sym c.in-Some-instruction.ensures) known) in
     search (rules, to_z-of_z, stands)
 
 pub carry_out_reading-requires : goal.carry_out_reading-requires
 carry_out_reading-requires g c =
     let m = memory_of c.args.memory.now in
-    let i = c.in-Some-find_word.instruction in
-    let at = ap (λ (r : Registers). r.pc) (c.execute_plain.ensures.kept c.if-execute_plain.false) ∙ c.in-Some.ensures in
-    stands_at m ((c.args.first + 4 * c.in-Some.word) % 2 ^ 32) c.execute_plain.new.pc i at (known_but i c.in_default-instruction.not-Ebreak)
+    let i = c.in-Some-instruction.instruction in
+    let at = ap (λ (r : Registers). r.pc) (c.execute_plain.ensures.stays c.if-execute_plain.false).kept ∙ c.in-Some.ensures in
+    stands_at m ((c.args.first + 4 * c.in-Some.word) % 2 ^ 32) c.execute_plain.new.pc (known_of c.in-Some-find_word.decoded) i at (sym c.in-Some-instruction.ensures)
     (c.in-Some-find_word.ensures m c.requires.code)
 
 pub make_load-made-requires-clause-may : goal.make_load-made-requires-clause-may
@@ -98,7 +98,7 @@ make_load-made-requires-clause-may g c =
     let here = exec_state_of (with_pc c.execute_plain.new.pc c.execute_plain.new.cpu) c.args.memory.now c.args.held.now in
     let runs = stayed g.W.Observer.stands (g.W.Observer.fits old) c.args.tid c.args.row.now (with_pc c.args.pc.now c.args.cpu.now) old c.steps.row
     (with_pc c.steps.pc c.steps.cpu) (with_pc c.execute_plain.new.pc c.execute_plain.new.cpu) c.args.memory.now c.args.held.now c.steps.observer
-    (c.execute_plain.ensures.kept c.if-execute_plain.false) c.steps.invariant.runs in (
+    (c.execute_plain.ensures.stays c.if-execute_plain.false).kept c.steps.invariant.runs in (
       c.args.held.now,
       subst (λ fits. MayMake g.W.Observer.stands fits tid (c.steps.row.plain + 1) here c.steps.observer) (sym c.steps.invariant.same)
           (may_make g.W.Observer.stands (g.W.Observer.fits old) tid c.steps.row c.steps-test.true here c.steps.observer r.first r.old r.most
@@ -112,7 +112,7 @@ steps-preserved-in-Ok-Went g c =
     let here = exec_state_of (with_pc c.execute_plain.new.pc c.execute_plain.new.cpu) c.args.memory.now c.args.held.now in
     let runs = stayed g.W.Observer.stands (g.W.Observer.fits old) c.args.tid c.args.row.now (with_pc c.args.pc.now c.args.cpu.now) old c.steps.row
     (with_pc c.steps.pc c.steps.cpu) (with_pc c.execute_plain.new.pc c.execute_plain.new.cpu) c.args.memory.now c.args.held.now c.steps.observer
-    (c.execute_plain.ensures.kept c.if-execute_plain.false) c.steps.invariant.runs in
+    (c.execute_plain.ensures.stays c.if-execute_plain.false).kept c.steps.invariant.runs in
     let new = exec_state_of (with_pc c.make_load-made.new.pc c.make_load-made.new.cpu) c.args.memory.now c.args.held.now in
     let makes = subst (λ fits. Makes g.W.Observer.stands fits tid (c.steps.row.plain + 1) here c.steps.observer new c.make_load-made.new.observer c.make_load-made.result)
     c.steps.invariant.same (c.make_load-made.ensures.made c.args.held.now) in
@@ -137,7 +137,7 @@ returns-in-Ok-Refused-clause-runs g c =
     let here = exec_state_of (with_pc c.execute_plain.new.pc c.execute_plain.new.cpu) c.args.memory.now c.args.held.now in
     let runs = stayed g.W.Observer.stands (g.W.Observer.fits old) c.args.tid c.args.row.now (with_pc c.args.pc.now c.args.cpu.now) old c.steps.row
     (with_pc c.steps.pc c.steps.cpu) (with_pc c.execute_plain.new.pc c.execute_plain.new.cpu) c.args.memory.now c.args.held.now c.steps.observer
-    (c.execute_plain.ensures.kept c.if-execute_plain.false) c.steps.invariant.runs in
+    (c.execute_plain.ensures.stays c.if-execute_plain.false).kept c.steps.invariant.runs in
     let new = exec_state_of (with_pc c.make_load-made.new.pc c.make_load-made.new.cpu) c.args.memory.now c.args.held.now in
     let makes = subst (λ fits. Makes g.W.Observer.stands fits tid (c.steps.row.plain + 1) here c.steps.observer new c.make_load-made.new.observer c.make_load-made.result)
     c.steps.invariant.same (c.make_load-made.ensures.made c.args.held.now) in
@@ -155,7 +155,7 @@ returns-in-Ok-Stopped-clause-runs g c =
     let here = exec_state_of (with_pc c.execute_plain.new.pc c.execute_plain.new.cpu) c.args.memory.now c.args.held.now in
     let runs = stayed g.W.Observer.stands (g.W.Observer.fits old) c.args.tid c.args.row.now (with_pc c.args.pc.now c.args.cpu.now) old c.steps.row
     (with_pc c.steps.pc c.steps.cpu) (with_pc c.execute_plain.new.pc c.execute_plain.new.cpu) c.args.memory.now c.args.held.now c.steps.observer
-    (c.execute_plain.ensures.kept c.if-execute_plain.false) c.steps.invariant.runs in
+    (c.execute_plain.ensures.stays c.if-execute_plain.false).kept c.steps.invariant.runs in
     let new = exec_state_of (with_pc c.make_load-made.new.pc c.make_load-made.new.cpu) c.args.memory.now c.args.held.now in
     let makes = subst (λ fits. Makes g.W.Observer.stands fits tid (c.steps.row.plain + 1) here c.steps.observer new c.make_load-made.new.observer c.make_load-made.result)
     c.steps.invariant.same (c.make_load-made.ensures.made c.args.held.now) in
@@ -173,7 +173,7 @@ returns-in-Err-clause-runs g c =
     let here = exec_state_of (with_pc c.execute_plain.new.pc c.execute_plain.new.cpu) c.args.memory.now c.args.held.now in
     let runs = stayed g.W.Observer.stands (g.W.Observer.fits old) c.args.tid c.args.row.now (with_pc c.args.pc.now c.args.cpu.now) old c.steps.row
     (with_pc c.steps.pc c.steps.cpu) (with_pc c.execute_plain.new.pc c.execute_plain.new.cpu) c.args.memory.now c.args.held.now c.steps.observer
-    (c.execute_plain.ensures.kept c.if-execute_plain.false) c.steps.invariant.runs in
+    (c.execute_plain.ensures.stays c.if-execute_plain.false).kept c.steps.invariant.runs in
     let new = exec_state_of (with_pc c.make_load-made.new.pc c.make_load-made.new.cpu) c.args.memory.now c.args.held.now in
     let makes = subst (λ fits. Makes g.W.Observer.stands fits tid (c.steps.row.plain + 1) here c.steps.observer new c.make_load-made.new.observer c.make_load-made.result)
     c.steps.invariant.same (c.make_load-made.ensures.made c.args.held.now) in
@@ -191,7 +191,7 @@ steps-preserved-in-Ran g c =
     let here = exec_state_of (with_pc c.execute_plain.new.pc c.execute_plain.new.cpu) c.args.memory.now c.args.held.now in
     let runs = stayed g.W.Observer.stands (g.W.Observer.fits old) c.args.tid c.args.row.now (with_pc c.args.pc.now c.args.cpu.now) old c.steps.row
     (with_pc c.steps.pc c.steps.cpu) (with_pc c.execute_plain.new.pc c.execute_plain.new.cpu) c.args.memory.now c.args.held.now c.steps.observer
-    (c.execute_plain.ensures.kept c.if-execute_plain.false) c.steps.invariant.runs in
+    (c.execute_plain.ensures.stays c.if-execute_plain.false).kept c.steps.invariant.runs in
     let new = exec_state_of (with_pc c.carry_out_reading.new.pc c.carry_out_reading.new.cpu) c.args.memory.now c.args.held.now in
     let went : IsStepOf here new tid c.in-Went.advanced × IsInstruction c.in-Went.advanced = subst (IsReadingOf here new tid) c.in-Went.is (c.carry_out_reading.ensures c.args.tid c.args.held.now) in
     let step = subst (IsStepOf here new tid) c.in-Ran.is went.0 in
@@ -212,7 +212,7 @@ hand_step-requires g c =
     let here = exec_state_of (with_pc c.execute_plain.new.pc c.execute_plain.new.cpu) c.args.memory.now c.args.held.now in
     let runs = stayed g.W.Observer.stands (g.W.Observer.fits old) c.args.tid c.args.row.now (with_pc c.args.pc.now c.args.cpu.now) old c.steps.row
     (with_pc c.steps.pc c.steps.cpu) (with_pc c.execute_plain.new.pc c.execute_plain.new.cpu) c.args.memory.now c.args.held.now c.steps.observer
-    (c.execute_plain.ensures.kept c.if-execute_plain.false) c.steps.invariant.runs in
+    (c.execute_plain.ensures.stays c.if-execute_plain.false).kept c.steps.invariant.runs in
     let new = exec_state_of (with_pc c.carry_out_reading.new.pc c.carry_out_reading.new.cpu) c.args.memory.now c.args.held.now in
     let went : IsStepOf here new tid c.in-Went.advanced × IsInstruction c.in-Went.advanced = subst (IsReadingOf here new tid) c.in-Went.is (c.carry_out_reading.ensures c.args.tid c.args.held.now) in
     record {
@@ -231,7 +231,7 @@ steps-preserved g c =
     let here = exec_state_of (with_pc c.execute_plain.new.pc c.execute_plain.new.cpu) c.args.memory.now c.args.held.now in
     let runs = stayed g.W.Observer.stands (g.W.Observer.fits old) c.args.tid c.args.row.now (with_pc c.args.pc.now c.args.cpu.now) old c.steps.row
     (with_pc c.steps.pc c.steps.cpu) (with_pc c.execute_plain.new.pc c.execute_plain.new.cpu) c.args.memory.now c.args.held.now c.steps.observer
-    (c.execute_plain.ensures.kept c.if-execute_plain.false) c.steps.invariant.runs in
+    (c.execute_plain.ensures.stays c.if-execute_plain.false).kept c.steps.invariant.runs in
     let new = exec_state_of (with_pc c.carry_out_reading.new.pc c.carry_out_reading.new.cpu) c.args.memory.now c.args.held.now in
     let went : IsStepOf here new tid c.in-Went.advanced × IsInstruction c.in-Went.advanced = subst (IsReadingOf here new tid) c.in-Went.is (c.carry_out_reading.ensures c.args.tid c.args.held.now) in
     let events = steps_of tid (c.steps.row.plain + 1) ++ done_by tid c.in-Went.advanced in
@@ -254,7 +254,7 @@ returns-in-Ok-Refused-hand_step g c =
     let here = exec_state_of (with_pc c.execute_plain.new.pc c.execute_plain.new.cpu) c.args.memory.now c.args.held.now in
     let runs = stayed g.W.Observer.stands (g.W.Observer.fits old) c.args.tid c.args.row.now (with_pc c.args.pc.now c.args.cpu.now) old c.steps.row
     (with_pc c.steps.pc c.steps.cpu) (with_pc c.execute_plain.new.pc c.execute_plain.new.cpu) c.args.memory.now c.args.held.now c.steps.observer
-    (c.execute_plain.ensures.kept c.if-execute_plain.false) c.steps.invariant.runs in
+    (c.execute_plain.ensures.stays c.if-execute_plain.false).kept c.steps.invariant.runs in
     let new = exec_state_of (with_pc c.carry_out_reading.new.pc c.carry_out_reading.new.cpu) c.args.memory.now c.args.held.now in
     let went : IsStepOf here new tid c.in-Went.advanced × IsInstruction c.in-Went.advanced = subst (IsReadingOf here new tid) c.in-Went.is (c.carry_out_reading.ensures c.args.tid c.args.held.now) in
     let events = steps_of tid (c.steps.row.plain + 1) ++ done_by tid c.in-Went.advanced in
@@ -277,7 +277,7 @@ returns-in-Err-hand_step g c =
     let here = exec_state_of (with_pc c.execute_plain.new.pc c.execute_plain.new.cpu) c.args.memory.now c.args.held.now in
     let runs = stayed g.W.Observer.stands (g.W.Observer.fits old) c.args.tid c.args.row.now (with_pc c.args.pc.now c.args.cpu.now) old c.steps.row
     (with_pc c.steps.pc c.steps.cpu) (with_pc c.execute_plain.new.pc c.execute_plain.new.cpu) c.args.memory.now c.args.held.now c.steps.observer
-    (c.execute_plain.ensures.kept c.if-execute_plain.false) c.steps.invariant.runs in
+    (c.execute_plain.ensures.stays c.if-execute_plain.false).kept c.steps.invariant.runs in
     let new = exec_state_of (with_pc c.carry_out_reading.new.pc c.carry_out_reading.new.cpu) c.args.memory.now c.args.held.now in
     let went : IsStepOf here new tid c.in-Went.advanced × IsInstruction c.in-Went.advanced = subst (IsReadingOf here new tid) c.in-Went.is (c.carry_out_reading.ensures c.args.tid c.args.held.now) in
     let events = steps_of tid (c.steps.row.plain + 1) ++ done_by tid c.in-Went.advanced in
@@ -299,7 +299,7 @@ returns-in-MayWrite-clause-runs g c =
     let here = exec_state_of (with_pc c.execute_plain.new.pc c.execute_plain.new.cpu) c.args.memory.now c.args.held.now in
     let runs = stayed g.W.Observer.stands (g.W.Observer.fits old) c.args.tid c.args.row.now (with_pc c.args.pc.now c.args.cpu.now) old c.steps.row
     (with_pc c.steps.pc c.steps.cpu) (with_pc c.execute_plain.new.pc c.execute_plain.new.cpu) c.args.memory.now c.args.held.now c.steps.observer
-    (c.execute_plain.ensures.kept c.if-execute_plain.false) c.steps.invariant.runs in
+    (c.execute_plain.ensures.stays c.if-execute_plain.false).kept c.steps.invariant.runs in
     let new = exec_state_of (with_pc c.carry_out_reading.new.pc c.carry_out_reading.new.cpu) c.args.memory.now c.args.held.now in
     let kept : new ≡ here = subst (IsReadingOf here new c.args.tid) c.in-MayWrite.is (c.carry_out_reading.ensures c.args.tid c.args.held.now) in
     λ first began most run.
@@ -312,7 +312,7 @@ returns-in-Stops-clause-runs g c =
     let here = exec_state_of (with_pc c.execute_plain.new.pc c.execute_plain.new.cpu) c.args.memory.now c.args.held.now in
     let runs = stayed g.W.Observer.stands (g.W.Observer.fits old) c.args.tid c.args.row.now (with_pc c.args.pc.now c.args.cpu.now) old c.steps.row
     (with_pc c.steps.pc c.steps.cpu) (with_pc c.execute_plain.new.pc c.execute_plain.new.cpu) c.args.memory.now c.args.held.now c.steps.observer
-    (c.execute_plain.ensures.kept c.if-execute_plain.false) c.steps.invariant.runs in
+    (c.execute_plain.ensures.stays c.if-execute_plain.false).kept c.steps.invariant.runs in
     let new = exec_state_of (with_pc c.carry_out_reading.new.pc c.carry_out_reading.new.cpu) c.args.memory.now c.args.held.now in
     let kept : new ≡ here = subst (IsReadingOf here new c.args.tid) c.in-Stops.is (c.carry_out_reading.ensures c.args.tid c.args.held.now) in
     λ first began most run.

@@ -5,17 +5,17 @@ use Rattle.guest_memory.specs.Code.{IsInstructionAt, known_of}
 use Rattle.guest_memory.proofs.code_page.find_word.Goals as goal
 
 pub returns : goal.returns
-returns c = λ m code.
-    let instructions = c.args.instructions.now in
+returns c = λ m known.
+    let words = c.args.code.now in
     let word = c.args.word in
-    let i = c.index-instructions-word.result in
+    let d = c.index-code-word.result in
     let low : word < 1024 = omega (arith, c.if-word-ge-PAGE_WORDS.false) in
     let at = (c.args.first + 4 * word) % 2 ^ 32 in
     let page : at / 4096 ≡ c.args.first / 4096 = omega (arith, low, c.requires.first, c.ranges.first) in
     let place : at / 4 % 1024 ≡ word = omega (arith, low, c.requires.first, c.ranges.first) in
     let even : at % 4 ≡ 0 = omega (arith, c.requires.first) in
-    let inside : word < length instructions = omega (arith, low, c.requires.whole) in
-    let is : known_of i ≡ get_or (map known_of instructions) (at / 4 % 1024) None =
-    ap known_of c.index-instructions-word.is ∙ sym (get_or-map known_of instructions word i None inside)
-    ∙ ap (λ n. get_or (map known_of instructions) n None) (sym place) in
-    subst (λ (o : Option Instr). IfSome o (IsInstructionAt m at)) (sym is) (code at even page)
+    let inside : word < length words = omega (arith, low, c.requires.whole) in
+    let is : known_of d ≡ get_or (map known_of words) (at / 4 % 1024) None =
+    ap known_of c.index-code-word.is ∙ sym (get_or-map known_of words word d None inside)
+    ∙ ap (λ n. get_or (map known_of words) n None) (sym place) in
+    subst (λ (o : Option Instr). IfSome o (IsInstructionAt m at)) (sym is) (known at even page)

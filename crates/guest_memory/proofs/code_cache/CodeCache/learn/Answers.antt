@@ -1,9 +1,8 @@
-use Rattle.std.proofs.Common.{◌≡◌, ◌<◌, ◌∙◌, ◌/◌, ◌%◌, ap, arith, get_or, length, set, subst, sym}
+use Rattle.std.proofs.Common.{Some, ◌≡◌, ◌<◌, ◌∙◌, ◌/◌, ◌%◌, ap, arith, get_or, length, set, subst, sym}
 use Rattle.std.proofs.lemmas.List.{get_or_read}
 use Rattle.guest_memory.specs.Private.CodePages.{known_in, no_code, page_at}
 use Rattle.guest_memory.proofs.KeptCode.{Holds}
-use Rattle.guest_memory.specs.Code.{known_of}
-use Rattle.guest_memory.proofs.PagesOfCode.{Page, holds_learned, known_some}
+use Rattle.guest_memory.proofs.PagesOfCode.{Page, holds_learned}
 use Rattle.guest_memory.proofs.code_cache.CodeCache.learn.Goals as goal
 
 pub returns-in_ok-place : goal.returns-in_ok-place
@@ -18,5 +17,5 @@ returns-in_ok-place c = λ m holds loads.
     let at : place ≡ get_or places (c.args.at / 4096) 0 = c.in_ok-place.ensures.place in
     let low : c.args.at / 4 % 1024 < length (page_at pages place).1 = omega (arith, c.learn.ensures.whole, ap (λ (p : Page). length p.1) read) in
     subst (λ (p : Page). Holds (known_in places (set pages place p)) m)
-    (sym (c.learn.ensures.page ∙ ap (λ (p : Page). (p.0, set p.1 (c.args.at / 4 % 1024) (known_of i))) read))
-    (holds_learned places pages m cache.index before c.args.at c.args.word (known_of i) place c.requires c.in_ok-place.ensures.some at c.in_ok-place.ensures.inside low loads (λ j is. sym c.in-Some.ensures.instruction ∙ known_some i j is))
+    (sym (c.learn.ensures.page ∙ ap (λ (p : Page). (p.0, set p.1 (c.args.at / 4 % 1024) (Some i))) read))
+    (holds_learned places pages m cache.index before c.args.at c.args.word (Some i) place c.requires c.in_ok-place.ensures.some at c.in_ok-place.ensures.inside low loads (λ j is. sym c.in-Some.ensures.instruction ∙ is))
