@@ -3,11 +3,12 @@ use Rattle.std.proofs.Common.{◌≡◌, ℕ, zero, suc, ◌+◌, ◌<◌, ◌�
 use Rattle.std.specs.Prelude.{not, None, Option, Some, is_some}
 use Rattle.std.specs.Option.{option_map_or, option_to_list}
 use Rattle.trace_model.specs.declared.event_kinds.Event.{Event}
-use Rattle.trace_model.specs.declared.event_kinds.Event.TheVariants.{Step}
+use Rattle.trace_model.specs.declared.event_kinds.Event.TheVariants.{Call, Read, Step, Write}
 use Rattle.trace_model.specs.declared.slow_profile.Done.{Done}
 use Rattle.trace_model.specs.Depth.{is_within}
 use Rattle.trace_model.specs.Profile.{ended, steps}
-use Rattle.trace_model.specs.Observing.{MayStepBy, with_steps}
+use Rattle.trace_model.specs.Observing.{MayStepBy, MayTake, with_steps}
+use Rattle.trace_model.proofs.Feeding.{steps_formed}
 use Rattle.trace_model.specs.WellFormed.{IsLight, IsWellFormed, weight}
 use Rattle.shadow_core.specs.Applying.{IsTaken}
 use Rattle.stamp_table.specs.Allows.{is_too_deep}
@@ -17,6 +18,7 @@ use Rattle.shadow_core.specs.State.{State, table_of_state}
 use Rattle.stamp_table.specs.Table.{Table}
 use Rattle.stamp_table.proofs.Deep.{deep_does_not_fit}
 use Rattle.run_profile.specs.Keeping.{MayKeep}
+use Rattle.run_profile.specs.Private.Passing.{IsSettled, ends_none}
 use Rattle.run_profile.specs.Profile.{IsOfFormed, IsProfileOf, KeptRun, ended_at, waiting}
 
 -- ---- Counts are small.
@@ -196,3 +198,51 @@ stepped most Holds t n k new kept past p none stands holds = record {
   kept = subst (Holds kept (with_steps t n past)) (sym (ap (λ (o : Option Event). option_map_or (λ x. k.ended) o []) none)) holds;
   steps_are = omega (arith, p.steps_are, steps_more t n past);
 }
+
+-- ---- Steps in a row, and an event after them.
+-- what ends no activation here is no step
+pub no_step : (e : Event) → ends_none e ≡ true → steps (e ∷ []) ≡ 0
+no_step (Read t first count) is = refl
+no_step (Write t first count) is = refl
+no_step (Call t entry back) is = refl
+no_step _ is = absurd (cc)
+
+pub settled_of : (most : ℕ) {K : Type 0} (Holds : K → List Event → List Done → Type 0) (k : KeptRun K) (past : List Event) → IsProfileOf most Holds k past →
+    k.next ≡ None → IsSettled Holds k past
+settled_of most Holds k past p none = record { none = none; kept = settled most Holds k past p none; steps_are = p.steps_are }
+
+-- a step of the thread may come
+pub may_step : (most t n : ℕ) (e : Event) (s : State) (past : List Event) → StandsFor most s past → 1 ≤ n → IsWellFormed (e ∷ with_steps t n past) →
+    MayTake (StandsFor most) s (Step t)
+may_step most t n e s past stands some formed = record { past = past; now = stands; formed = steps_formed t n 0 past some formed.2 }
+
+module _ (most : ℕ) {K : Type 0} (Holds : K → List Event → List Done → Type 0) (t n : ℕ) (k : KeptRun K) (past : List Event) (own : IsSettled Holds k past)
+    (e : Event) (none : steps (e ∷ []) ≡ 0) (new : State) (after : List Done) (taken : IsTaken most e (with_steps t n past) new [] after) (kept : K) (last : List Done) where
+  counted : k.steps + n ≡ steps (e ∷ with_steps t n past)
+  counted = omega (arith, own.steps_are, steps_more t n past, one_more e (with_steps t n past), none)
+
+  -- the keeper took it
+  pub passed_after : Holds kept (e ∷ with_steps t n past) [] →
+      IsProfileOf most Holds (record k { stamps = new; kept = kept; ended = last; steps = k.steps + n }) (e ∷ with_steps t n past)
+  passed_after holds =
+      let nothing : option_map_or (λ (x : Event). last) k.next [] ≡ [] = ap (λ (o : Option Event). option_map_or (λ x. last) o []) own.none in
+      record {
+        stands = taken.stands;
+        earlier = e ∷ with_steps t n past;
+        all = sym (ap (λ o. option_to_list o ++ (e ∷ with_steps t n past)) own.none);
+        ended_is = nothing ∙ sym (ap (λ o. ended_at o (e ∷ with_steps t n past)) own.none);
+        kept = subst (Holds kept (e ∷ with_steps t n past)) (sym nothing) holds;
+        steps_are = counted;
+      }
+
+  -- it is still to take it
+  pub waits_after : last ≡ after → Holds kept (with_steps t n past) after →
+      IsProfileOf most Holds (record k { stamps = new; kept = kept; next = Some e; ended = last; steps = k.steps + n }) (e ∷ with_steps t n past)
+  waits_after is holds = record {
+    stands = taken.stands;
+    earlier = with_steps t n past;
+    all = refl;
+    ended_is = is ∙ taken.recorded;
+    kept = subst (Holds kept (with_steps t n past)) (sym is) holds;
+    steps_are = counted;
+  }

@@ -1,16 +1,19 @@
 //! The profile of a run that goes on.
 ghost use Rattle.std.specs.Prelude.{◌≡◌, ◌≤◌, ◌∷◌, [], List, None, true, false, Ok, IfOk, IsOk, OnErr, OnOk};
 ghost use Rattle.trace_model.specs.declared.event_kinds.Event.{Event};
-ghost use Rattle.trace_model.specs.declared.event_kinds.Event.TheVariants.{Ret};
+ghost use Rattle.trace_model.specs.declared.event_kinds.Event.TheVariants.{Call, Read, Ret, Write};
 ghost use Rattle.std.specs.Vec.{vec_capacity};
 ghost use Rattle.trace_model.specs.declared.observer.Observed.{Observed};
 ghost use Rattle.trace_model.specs.Depth.{is_within};
-ghost use Rattle.trace_model.specs.Observing.{MayStepBy, MayTake, Observes, StandsAsBefore, StepsBy};
+ghost use Rattle.trace_model.specs.Observing.{MayStepBy, MayTake, MayTakeAfter, Observes, ObservesAfter, StandsAsBefore, StepsBy, with_steps};
 ghost use Rattle.trace_model.specs.Profile.{ended, steps};
+ghost use Rattle.shadow_core.specs.Applying.{IsTaken};
+ghost use Rattle.shadow_core.specs.State.{State};
+ghost use Rattle.run_profile.specs.Private.Passing.{IsSettled, MayPass, ends_none};
 ghost use Rattle.run_profile.specs.Profile.{AreCountsOf, IsOfFormed, IsProfileOf};
 
 use crate::{Counts, Keeper};
-use guest_words::{Addr, Tid};
+use guest_words::{Addr, Tid, Word};
 use shadow_core::{ApplyError, Profiler};
 use stamp_lanes::Lanes;
 use std::alloc::{AllocError, Global};
@@ -31,7 +34,10 @@ pub struct Profile<S: Lanes, K: Keeper> {
 }
 
 impl<S: Lanes, K: Keeper> Model for Profile<S, K> {
-    ghost use Rattle.run_profile.specs.Profile.{KeptRun};
+    ghost use Rattle.shadow_core.specs.Applying.{IsTaken};
+ghost use Rattle.shadow_core.specs.State.{State};
+ghost use Rattle.run_profile.specs.Private.Passing.{IsSettled, MayPass, ends_none};
+ghost use Rattle.run_profile.specs.Profile.{KeptRun};
 
     ghost Value = { KeptRun K };
 
@@ -56,14 +62,23 @@ fn steps_of(e: &Event) -> u64
 }
 
 // The list gets one element, for which it has room.
-#[cold]
 #[inline(never)]
-fn make_only(list: &mut Vec<Done>, one: &Done)
+fn make_only(list: &mut Vec<Done>, one: Done)
+    requires { 1 ≤ vec_capacity list.old }
+    ensures { list.new.items ≡ one ∷ [] }
+{
+    list.clear();
+    list.push(one).unwrap();
+}
+
+// The same. The element is copied here, so that the compiler need not have it in memory where the list does not get it.
+#[inline(always)]
+fn keep_only(list: &mut Vec<Done>, one: &Done)
     requires { 1 ≤ vec_capacity list.old }
     ensures { list.new.items ≡ one.now ∷ [] }
 {
-    list.clear();
-    list.push(*one).unwrap();
+    let copy = *one;
+    make_only(list, copy);
 }
 
 impl<S: Lanes, K: Keeper> Profile<S, K> {
@@ -141,43 +156,182 @@ impl<S: Lanes, K: Keeper> Profile<S, K> {
         Ok(true)
     }
 
-    // Takes an event. It stands apart, so that the code of a return that ends one activation is short.
-    #[cold]
+    // Takes steps of a thread and an event after them. It stands apart, so that the code of what mostly happens is short and saves
+    // no register.
     #[inline(never)]
-    fn observe_apart(&mut self, e: Event) -> Result<Observed, AllocError>
-        requires { MayTake (IsProfileOf S.MAX K.holds) self.old e }
-        ensures observed { IfOk result (Observes (IsProfileOf S.MAX K.holds) (is_within S.MAX) e self.old self.new) }
-        ensures refused { OnErr result (StandsAsBefore (IsProfileOf S.MAX K.holds) self.old self.new) }
+    fn observe_after_apart(
+        &mut self,
+        tid: Tid,
+        count: u64,
+        e: Event,
+    ) -> Result<Observed, AllocError>
+        requires may { MayTakeAfter (IsProfileOf S.MAX K.holds) (is_within S.MAX) self.old tid count e }
+        requires some { 1 ≤ count }
+        ensures observed { IfOk result (ObservesAfter (IsProfileOf S.MAX K.holds) (is_within S.MAX) tid count e self.old self.new) }
     {
+        self.observe_steps(tid, count)?;
         self.observe(e)
     }
 
-    // Takes a return. Mostly it ends one activation, whose record then need not go through the list.
+    // Counts steps of a thread and hands them to the keeper, which has taken all before them, and then an event that ends no
+    // activation. The profiler takes both by itself.
     #[inline(always)]
-    fn observe_return(&mut self, tid: Tid, target: Addr) -> Result<Observed, AllocError>
-        requires { MayTake (IsProfileOf S.MAX K.holds) self.old (Ret tid target) }
-        ensures observed { IfOk result (Observes (IsProfileOf S.MAX K.holds) (is_within S.MAX) (Ret tid target) self.old self.new) }
-        ensures refused { OnErr result (StandsAsBefore (IsProfileOf S.MAX K.holds) self.old self.new) }
+    fn pass_after(&mut self, tid: Tid, count: u64, e: Event)
+        requires may { MayPass K.holds self.old tid count e }
+        requires some { 1 ≤ count }
+        requires open { ends_none e ≡ true }
+        ensures passed { (past : List Event) (stamps : State) → IsSettled K.holds self.old past
+            → IsTaken S.MAX e (with_steps tid count past) stamps [] []
+            → IsProfileOf S.MAX K.holds (record self.new { stamps = stamps }) (e ∷ with_steps tid count past) }
+        ensures stamps { self.new.stamps ≡ self.old.stamps }
     {
-        let e = Event::Ret { tid, target };
+        self.steps += count;
+        self.kept.take_steps(tid, count);
+        if !self.kept.pass(&e, &[]) {
+            self.ended.clear();
+            self.next = Some(e);
+        }
+    }
+
+    // Takes steps of a thread and its read of a word. Mostly the keeper has taken all, and the page of the word is there.
+    #[inline(always)]
+    fn observe_read(
+        &mut self,
+        tid: Tid,
+        count: u64,
+        reader: Tid,
+        w: Word,
+    ) -> Result<Observed, AllocError>
+        requires may { MayTakeAfter (IsProfileOf S.MAX K.holds) (is_within S.MAX) self.old tid count (Read reader w 1) }
+        requires some { 1 ≤ count }
+        ensures observed { IfOk result (ObservesAfter (IsProfileOf S.MAX K.holds) (is_within S.MAX) tid count (Read reader w 1) self.old self.new) }
+    {
+        let e = Event::Read {
+            tid: reader,
+            first: w,
+            count: 1,
+        };
+        if reader != tid {
+            return self.observe_after_apart(tid, count, e);
+        }
         if self.next.is_some() {
-            return self.observe_apart(e);
+            return self.observe_after_apart(tid, count, e);
+        }
+        match self.profiler.word_read(tid, w) {
+            Some(access) => {
+                self.pass_after(tid, count, e);
+                self.profiler.read_after(tid, count, w, access);
+                Ok(Observed::Taken)
+            }
+            None => self.observe_after_apart(tid, count, e),
+        }
+    }
+
+    // Takes steps of a thread and its write of a word.
+    #[inline(always)]
+    fn observe_write(
+        &mut self,
+        tid: Tid,
+        count: u64,
+        writer: Tid,
+        w: Word,
+    ) -> Result<Observed, AllocError>
+        requires may { MayTakeAfter (IsProfileOf S.MAX K.holds) (is_within S.MAX) self.old tid count (Write writer w 1) }
+        requires some { 1 ≤ count }
+        ensures observed { IfOk result (ObservesAfter (IsProfileOf S.MAX K.holds) (is_within S.MAX) tid count (Write writer w 1) self.old self.new) }
+    {
+        let e = Event::Write {
+            tid: writer,
+            first: w,
+            count: 1,
+        };
+        if writer != tid {
+            return self.observe_after_apart(tid, count, e);
+        }
+        if self.next.is_some() {
+            return self.observe_after_apart(tid, count, e);
+        }
+        match self.profiler.word_written(tid, w) {
+            Some(written) => {
+                self.pass_after(tid, count, e);
+                self.profiler.write_after(tid, count, w, written);
+                Ok(Observed::Taken)
+            }
+            None => self.observe_after_apart(tid, count, e),
+        }
+    }
+
+    // Takes steps of a thread and its call.
+    #[inline(always)]
+    fn observe_call(
+        &mut self,
+        tid: Tid,
+        count: u64,
+        caller: Tid,
+        entry: Addr,
+        back: Addr,
+    ) -> Result<Observed, AllocError>
+        requires may { MayTakeAfter (IsProfileOf S.MAX K.holds) (is_within S.MAX) self.old tid count (Call caller entry back) }
+        requires some { 1 ≤ count }
+        ensures observed { IfOk result (ObservesAfter (IsProfileOf S.MAX K.holds) (is_within S.MAX) tid count (Call caller entry back) self.old self.new) }
+    {
+        let e = Event::Call {
+            tid: caller,
+            entry,
+            back,
+        };
+        if caller != tid {
+            return self.observe_after_apart(tid, count, e);
+        }
+        if self.next.is_some() {
+            return self.observe_after_apart(tid, count, e);
+        }
+        if !self.profiler.call_after(tid, count, entry, back) {
+            return self.observe_after_apart(tid, count, e);
+        }
+        self.pass_after(tid, count, e);
+        Ok(Observed::Taken)
+    }
+
+    // Takes steps of a thread and its return. Mostly it ends one activation, whose record then need not go through the list.
+    #[inline(always)]
+    fn observe_return(
+        &mut self,
+        tid: Tid,
+        count: u64,
+        returner: Tid,
+        target: Addr,
+    ) -> Result<Observed, AllocError>
+        requires may { MayTakeAfter (IsProfileOf S.MAX K.holds) (is_within S.MAX) self.old tid count (Ret returner target) }
+        requires some { 1 ≤ count }
+        ensures observed { IfOk result (ObservesAfter (IsProfileOf S.MAX K.holds) (is_within S.MAX) tid count (Ret returner target) self.old self.new) }
+    {
+        let e = Event::Ret {
+            tid: returner,
+            target,
+        };
+        if returner != tid {
+            return self.observe_after_apart(tid, count, e);
+        }
+        if self.next.is_some() {
+            return self.observe_after_apart(tid, count, e);
         }
         if self.ended.capacity() < 1 {
-            return self.observe_apart(e);
+            return self.observe_after_apart(tid, count, e);
         }
-        match self.profiler.return_one(tid, target) {
+        match self.profiler.return_after(tid, count, target) {
             Some(ended) => {
+                self.steps += count;
+                self.kept.take_steps(tid, count);
                 let ends = [ended];
-                self.steps += steps_of(&e);
                 if self.kept.pass(&e, &ends) {
                     return Ok(Observed::Taken);
                 }
-                make_only(&mut self.ended, &ends[0]);
+                keep_only(&mut self.ended, &ends[0]);
                 self.next = Some(e);
                 Ok(Observed::Taken)
             }
-            None => self.observe_apart(e),
+            None => self.observe_after_apart(tid, count, e),
         }
     }
 
@@ -211,7 +365,10 @@ impl<S: Lanes, K: Keeper> Profile<S, K> {
 impl<S: Lanes, K: Keeper> Observer for Profile<S, K> {
     ghost use Rattle.trace_model.specs.Depth.{is_within};
     ghost use Rattle.trace_model.proofs.Cut.{steps_within, within_closed};
-    ghost use Rattle.run_profile.specs.Profile.{IsProfileOf};
+    ghost use Rattle.shadow_core.specs.Applying.{IsTaken};
+ghost use Rattle.shadow_core.specs.State.{State};
+ghost use Rattle.run_profile.specs.Private.Passing.{IsSettled, MayPass, ends_none};
+ghost use Rattle.run_profile.specs.Profile.{IsProfileOf};
 
     ghost stands = { IsProfileOf S.MAX K.holds };
 
@@ -249,12 +406,30 @@ impl<S: Lanes, K: Keeper> Observer for Profile<S, K> {
         }
     }
 
+    // Each kind of event that most programs have most has a function of its own.
     #[inline(always)]
     fn observe_after(&mut self, tid: Tid, count: u64, e: Event) -> Result<Observed, AllocError> {
-        self.observe_steps(tid, count)?;
         match e {
-            Event::Ret { tid, target } => self.observe_return(tid, target),
-            _ => self.observe(e),
+            Event::Read {
+                tid: reader,
+                first,
+                count: 1,
+            } => self.observe_read(tid, count, reader, first),
+            Event::Write {
+                tid: writer,
+                first,
+                count: 1,
+            } => self.observe_write(tid, count, writer, first),
+            Event::Call {
+                tid: caller,
+                entry,
+                back,
+            } => self.observe_call(tid, count, caller, entry, back),
+            Event::Ret {
+                tid: returner,
+                target,
+            } => self.observe_return(tid, count, returner, target),
+            _ => self.observe_after_apart(tid, count, e),
         }
     }
 

@@ -28,7 +28,7 @@ use Rattle.shadow_core.proofs.StateThreads.{threads_change}
 use Rattle.shadow_core.proofs.StateTold.{thread_is_told}
 
 -- ---- One thread is changed, and changed again.
-value_there : {T : Type 0} (xs : List (ℕ × T)) (t : ℕ) (v w : T) → value_of xs t ≡ Some w → value_of (with_value xs t v) t ≡ Some v
+pub value_there : {T : Type 0} (xs : List (ℕ × T)) (t : ℕ) (v w : T) → value_of xs t ≡ Some w → value_of (with_value xs t v) t ≡ Some v
 value_there [] t v w here = absurd (cc)
 value_there (x ∷ xs) t v w here = by (x.0 == t) refl here (λ later. value_there xs t v w later)
   where

@@ -1,4 +1,5 @@
 pub mod State
 pub mod Profiling
+pub mod Accesses
 pub mod Applying
 pub mod Private

@@ -1,7 +1,8 @@
 -- What a profiler keeps, in the words of its parts, and the stamp table that it is.
-use Rattle.std.specs.Prelude.{ℕ, List, map, reverse, Option}
+use Rattle.std.specs.Prelude.{ℕ, ◌+◌, List, map, reverse, Option}
 use Rattle.shadow_pages.specs.Pages.{Page, stamp_at}
-use Rattle.stamp_renumber.specs.Threads.{Live, Stamped}
+use Rattle.stamp_renumber.specs.Counted.{steps_added, with_calls}
+use Rattle.stamp_renumber.specs.Threads.{Live, Stamped, calls_of}
 use Rattle.stamp_table.specs.Table.{Thread, Table}
 
 -- The counter; the pages of the write stamps and of the marks; the live threads, with their frames, stamps and calls; the rest is
@@ -34,3 +35,7 @@ table_of_state s = record {
   weight = s.weight;
   renumbered = s.renumbered;
 }
+
+-- after more steps of the thread that made the last one
+abbrev pub stepped : ℕ → ℕ → State → State
+stepped t n s = record s { live = with_calls s.live t (steps_added n (calls_of s.live.threads t)); weight = s.weight + n }

@@ -13,4 +13,6 @@ mod rows;
 mod writes;
 
 pub use apply_error::ApplyError;
-pub use profiler::Profiler;
+pub use profiler::{Profiler, Written};
+pub use reads::Access;
+pub use writes::Latest;

@@ -5,15 +5,16 @@ ghost use Rattle.trace_model.specs.declared.event_kinds.Event.TheVariants.{Call,
 ghost use Rattle.std.specs.Vec.{vec_capacity};
 ghost use Rattle.trace_model.specs.Activations.{count_returned};
 ghost use Rattle.trace_model.specs.Depth.{count_begun, is_within, pending};
-ghost use Rattle.trace_model.specs.Observing.{MayStepBy, MayTake, with_steps};
+ghost use Rattle.trace_model.specs.Observing.{MayStepBy, MayTake, MayTakeAfter, with_steps};
 ghost use Rattle.shadow_pages.specs.Pages.{AreCovered, HasPlace, stamp_at};
 ghost use Rattle.stamp_renumber.specs.Threads.{all_starts, calls_of, pages_of};
 ghost use Rattle.shadow_core.specs.declared.apply_error.ApplyError.TheVariants.{Memory, TooDeep};
+ghost use Rattle.shadow_core.specs.Accesses.{IsAccessTo, IsLatestOf};
 ghost use Rattle.shadow_core.specs.Applying.{HasSamePages, IsTaken, DoesNotAllocate};
 ghost use Rattle.stamp_table.specs.Allows.{is_too_deep};
 ghost use Rattle.stamp_table.specs.Counting.{renumberings};
 ghost use Rattle.shadow_core.specs.Profiling.{StandsFor};
-ghost use Rattle.shadow_core.specs.State.{table_of_state};
+ghost use Rattle.shadow_core.specs.State.{stepped, table_of_state};
 ghost use Rattle.stamp_table.specs.Records.{finished};
 ghost use Rattle.stamp_table.specs.Renewal.{bounded_tick};
 ghost use Rattle.call_tracker.specs.ThreadCalls.{CountedCall};
@@ -34,6 +35,13 @@ use stamp_renumber::{Returned, Threads};
 use std::alloc::{AllocError, Global};
 use std::marker::Model;
 use trace_model::{Done, Event};
+
+/// Where the stamps of a word are that its thread writes: of the thread's access and of the latest write.
+#[derive(Clone, Copy)]
+pub struct Written<S: Lanes> {
+    pub access: Access<S>,
+    pub latest: Latest<S>,
+}
 
 /// A profiler: it keeps the stamp table of the events so far, and no event.
 #[derive(Drop)]
@@ -160,12 +168,105 @@ impl<S: Lanes> Profiler<S> {
         }
     }
 
+    /// Where the thread's access to a word is kept, and its stamp, if the thread made the last step and has the word's page.
+    #[inline(always)]
+    pub fn word_read(&self, tid: Tid, w: Word) -> Option<Access<S>>
+        requires { MayTake (StandsFor S.MAX) self.now (Step tid) }
+        ensures { IfSome result (λ a. IsAccessTo self.now tid w a.place (S.number_of a.stamp)) }
+    {
+        if !is_running(self.last, tid) {
+            return None;
+        }
+        access_of(&self.threads, tid, w)
+    }
+
+    /// Takes `steps` steps of the thread that made the last one, and then its read of a word, whose access `word_read` gave. It
+    /// does not allocate.
+    #[inline(always)]
+    pub fn read_after(&mut self, tid: Tid, steps: u64, w: Word, access: Access<S>)
+        requires may { MayTakeAfter (StandsFor S.MAX) (is_within S.MAX) self.old tid steps (Read tid w 1) }
+        requires some { 1 ≤ steps }
+        requires access { IsAccessTo self.old tid w access.place (S.number_of access.stamp) }
+        ensures table { table_of_state self.new ≡ table_after (bounded_tick S.MAX) (Read tid w 1)
+            (table_after_steps (bounded_tick S.MAX) tid steps (table_of_state self.old)) }
+        ensures stands { (past : List Event) → StandsFor S.MAX self.old past
+            → IsTaken S.MAX (Read tid w 1) (with_steps tid steps past) self.new [] [] }
+    {
+        self.steps_on(tid, steps);
+        self.read_known(tid, w, access);
+    }
+
+    /// Where the thread's access to a word and the word's latest write are kept, with their stamps and the mark, if the thread
+    /// made the last step and all three pages are there.
+    #[inline(always)]
+    pub fn word_written(&self, tid: Tid, w: Word) -> Option<Written<S>>
+        requires { MayTake (StandsFor S.MAX) self.now (Step tid) }
+        ensures access { IfSome result (λ x. IsAccessTo self.now tid w x.access.place (S.number_of x.access.stamp)) }
+        ensures latest { IfSome result (λ x. IsLatestOf self.now w x.latest.place (S.number_of x.latest.stamp) x.latest.mark) }
+    {
+        if !is_running(self.last, tid) {
+            return None;
+        }
+        let access = access_of(&self.threads, tid, w)?;
+        let latest = latest_of(&self.writes, &self.marks, w)?;
+        Some(Written { access, latest })
+    }
+
+    /// Takes `steps` steps of the thread that made the last one, and then its write of a word, of which `word_written` gave where
+    /// its stamps are. It does not allocate.
+    #[inline(always)]
+    pub fn write_after(&mut self, tid: Tid, steps: u64, w: Word, written: Written<S>)
+        requires may { MayTakeAfter (StandsFor S.MAX) (is_within S.MAX) self.old tid steps (Write tid w 1) }
+        requires some { 1 ≤ steps }
+        requires access { IsAccessTo self.old tid w written.access.place (S.number_of written.access.stamp) }
+        requires latest { IsLatestOf self.old w written.latest.place (S.number_of written.latest.stamp) written.latest.mark }
+        ensures table { table_of_state self.new ≡ table_after (bounded_tick S.MAX) (Write tid w 1)
+            (table_after_steps (bounded_tick S.MAX) tid steps (table_of_state self.old)) }
+        ensures stands { (past : List Event) → StandsFor S.MAX self.old past
+            → IsTaken S.MAX (Write tid w 1) (with_steps tid steps past) self.new [] [] }
+    {
+        self.steps_on(tid, steps);
+        self.write_known(tid, w, written.access, written.latest);
+    }
+
+    /// Takes `steps` steps of the thread and then its call, and answers `true`, where the thread made the last step, the call is not
+    /// too deep, no stamp is renumbered and no memory is needed. Otherwise it answers `false`, and nothing changes.
+    #[inline(always)]
+    pub fn call_after(&mut self, tid: Tid, steps: u64, entry: Addr, back: Addr) -> bool
+        requires may { MayTakeAfter (StandsFor S.MAX) (is_within S.MAX) self.old tid steps (Call tid entry back) }
+        requires some { 1 ≤ steps }
+        ensures table { result ≡ true → table_of_state self.new ≡ table_after (bounded_tick S.MAX) (Call tid entry back)
+            (table_after_steps (bounded_tick S.MAX) tid steps (table_of_state self.old)) }
+        ensures stands { result ≡ true → (past : List Event) → StandsFor S.MAX self.old past
+            → IsTaken S.MAX (Call tid entry back) (with_steps tid steps past) self.new [] [] }
+        ensures same { result ≡ false → self.new ≡ self.old }
+    {
+        false
+    }
+
+    /// Takes `steps` steps of the thread and then its return, and answers what is recorded of the activation that it ends, where the
+    /// thread made the last step and the return ends one activation. Where it ends none or several, or the last step was
+    /// another thread's, the answer is none, and nothing changes. It does not allocate.
+    #[inline(always)]
+    pub fn return_after(&mut self, tid: Tid, steps: u64, target: Addr) -> Option<Done>
+        requires may { MayTakeAfter (StandsFor S.MAX) (is_within S.MAX) self.old tid steps (Ret tid target) }
+        requires some { 1 ≤ steps }
+        ensures table { IfSome result (λ ended. table_of_state self.new ≡ table_after (bounded_tick S.MAX) (Ret tid target)
+            (table_after_steps (bounded_tick S.MAX) tid steps (table_of_state self.old))) }
+        ensures stands { (past : List Event) → StandsFor S.MAX self.old past
+            → IfSome result (λ ended. IsTaken S.MAX (Ret tid target) (with_steps tid steps past) self.new [] (ended ∷ [])) }
+        ensures same { IfNone result (self.new ≡ self.old) }
+    {
+        None
+    }
+
     // Steps of the thread that made the last one.
     #[inline(always)]
     fn steps_on(&mut self, tid: Tid, count: u64)
         requires may { MayStepBy (StandsFor S.MAX) (is_within S.MAX) self.old tid count }
         requires some { 1 ≤ count }
         requires runs { self.old.last ≡ Some tid }
+        ensures state { self.new ≡ stepped tid count self.old }
         ensures pages { HasSamePages self.old self.new }
         ensures table { table_of_state self.new ≡ table_after_steps (bounded_tick S.MAX) tid count
             (table_of_state self.old) }

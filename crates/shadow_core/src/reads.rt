@@ -44,10 +44,10 @@ fn below_zero(by: Sums) -> Sums
 
 /// Where a thread's access to a word is kept, and its stamp.
 #[derive(Clone, Copy)]
-pub(crate) struct Access<S: Stamp> {
-    // the place of its page
-    pub(crate) place: usize,
-    pub(crate) stamp: S,
+pub struct Access<S: Stamp> {
+    /// The place of its page.
+    pub place: usize,
+    pub stamp: S,
 }
 
 /// The thread's access to a word, where it has the word's page.

@@ -55,11 +55,11 @@ pub(crate) fn fill<S: Lanes>(
 
 /// Where the latest write of a word is kept, its stamp and its mark.
 #[derive(Clone, Copy)]
-pub(crate) struct Latest<S: Stamp> {
-    // the place of its page, and of that of its mark
-    place: usize,
-    stamp: S,
-    mark: u8,
+pub struct Latest<S: Stamp> {
+    /// The place of its page, and of that of its mark.
+    pub place: usize,
+    pub stamp: S,
+    pub mark: u8,
 }
 
 /// The latest write of a word, where both pages have one place. They do, but where a page was refused.

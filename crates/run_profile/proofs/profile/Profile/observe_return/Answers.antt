@@ -1,44 +1,62 @@
-use Rattle.std.proofs.Common.{◌≡◌, ◌∙◌, ◌∷◌, [], ap, refl, subst, sym}
-use Rattle.std.specs.Prelude.{IfOk, None, OnErr}
+use Rattle.std.proofs.Common.{◌≡◌, ◌∙◌, ◌∷◌, [], ap, arith, refl, subst, sym}
+use Rattle.std.specs.Prelude.{IfOk, None}
+use Rattle.std.proofs.lemmas.Bool.Decides.{nat_tests}
 use Rattle.trace_model.specs.declared.event_kinds.Event.TheVariants.{Ret}
 use Rattle.trace_model.specs.Depth.{is_within}
-use Rattle.trace_model.specs.Observing.{MayTake, Observes, StandsAsBefore}
+use Rattle.trace_model.specs.Observing.{ObservesAfter, with_steps}
+use Rattle.shadow_core.specs.Applying.{IsTaken}
 use Rattle.shadow_core.specs.State.{State}
 use Rattle.run_profile.specs.Profile.{IsProfileOf, KeptRun}
-use Rattle.run_profile.proofs.Profiles.{not_some, passed, recorded, settled}
+use Rattle.run_profile.proofs.Profiles.{few_more, not_some, passed_after, settled_of, waits_after}
 use Rattle.run_profile.proofs.profile.Profile.observe_return.Goals as goal
 
-pub return_one-requires : goal.return_one-requires
-return_one-requires g c =
-    let past = c.requires.past in
-    let p = subst (λ (k : KeptRun g.row.K.Denot). IsProfileOf g.S.Stamp.MAX g.K.Keeper.holds k past) (sym c.self.view_is) c.requires.now in
-    record { past = past; now = p.stands; formed = c.requires.formed }
+pub overflow_add-self : goal.overflow_add-self
+overflow_add-self g c =
+    let may = c.requires.may in
+    let p = subst (λ (k : KeptRun g.row.K.Denot). IsProfileOf g.S.Stamp.MAX g.K.Keeper.holds k may.past) (sym c.self.view_is) may.now in
+    omega (arith, few_more c.args.tid c.args.count may.past c.self.inside.steps c.requires.some may.formed.2 p.steps_are)
 
-pub returns-then-pass-clause-observed : goal.returns-then-pass-clause-observed
-returns-then-pass-clause-observed g c = λ past kept.
-    let e = Ret c.args.tid c.args.target in
-    let p = subst (λ (k : KeptRun g.row.K.Denot). IsProfileOf g.S.Stamp.MAX g.K.Keeper.holds k past) (sym c.self.view_is) kept in
-    let none : c.self.inside.next ≡ None = not_some c.self.inside.next (sym c.is_some.ensures ∙ c.if-is_some.false) in
-    let d = c.in-Some.ended in
-    let taken = c.in-Some.ensures.stands past p.stands in
-    passed g.S.Stamp.MAX g.K.Keeper.holds _ past p none e c.return_one.new.self [] (d ∷ []) refl taken c.pass.new.self c.steps_of.result c.steps_of.ensures
-    c.self.inside.ended.items
-    (c.if-pass.ensures.passes past (settled g.S.Stamp.MAX g.K.Keeper.holds _ past p none) (recorded g.S.Stamp.MAX g.K.Keeper.holds _ past p none e c.return_one.new.self [] (d ∷ []) refl taken))
+pub returns-then-pass : goal.returns-then-pass
+returns-then-pass g c = record {
+  observed = λ past kept fitting.
+      let p = subst (λ (k : KeptRun g.row.K.Denot). IsProfileOf g.S.Stamp.MAX g.K.Keeper.holds k past) (sym c.self.view_is) kept in
+      let none : c.self.inside.next ≡ None = not_some c.self.inside.next (sym c.is_some.ensures ∙ c.if-is_some.false) in
+      let own = settled_of g.S.Stamp.MAX g.K.Keeper.holds _ past p none in
+      let same : c.args.returner ≡ c.args.tid = grind (arith, nat_tests, c.ne.ensures, c.if-ne.false) in
+      let later = with_steps c.args.tid c.args.count past in
+      let new = c.return_after.new.self in
+      let ends = c.in-Some.ended ∷ [] in
+      let taken = subst (λ r. IsTaken g.S.Stamp.MAX (Ret r c.args.target) later new [] ends) (sym same) (c.in-Some.ensures.stands past p.stands) in (
+        passed_after g.S.Stamp.MAX g.K.Keeper.holds c.args.tid c.args.count _ past own (Ret c.args.returner c.args.target) refl new ends taken c.pass.new.self c.self.inside.ended.items
+        (c.if-pass.ensures.passes later (c.take_steps.ensures past own.kept) taken.recorded),
+        taken.fits,
+      );
+}
 
-pub observe_apart-requires-in-None : goal.observe_apart-requires-in-None
-observe_apart-requires-in-None g c =
+pub returns-else-pass : goal.returns-else-pass
+returns-else-pass g c = record {
+  observed = λ past kept fitting.
+      let p = subst (λ (k : KeptRun g.row.K.Denot). IsProfileOf g.S.Stamp.MAX g.K.Keeper.holds k past) (sym c.self.view_is) kept in
+      let none : c.self.inside.next ≡ None = not_some c.self.inside.next (sym c.is_some.ensures ∙ c.if-is_some.false) in
+      let own = settled_of g.S.Stamp.MAX g.K.Keeper.holds _ past p none in
+      let same : c.args.returner ≡ c.args.tid = grind (arith, nat_tests, c.ne.ensures, c.if-ne.false) in
+      let later = with_steps c.args.tid c.args.count past in
+      let new = c.return_after.new.self in
+      let ends = c.in-Some.ended ∷ [] in
+      let taken = subst (λ r. IsTaken g.S.Stamp.MAX (Ret r c.args.target) later new [] ends) (sym same) (c.in-Some.ensures.stands past p.stands) in (
+        waits_after g.S.Stamp.MAX g.K.Keeper.holds c.args.tid c.args.count _ past own (Ret c.args.returner c.args.target) refl new ends taken c.pass.new.self c.keep_only.new.list.items
+        c.keep_only.ensures
+        (c.if-pass.ensures.passes later (c.take_steps.ensures past own.kept) taken.recorded),
+        taken.fits,
+      );
+}
+
+pub returns-in-None : goal.returns-in-None
+returns-in-None g c =
     let old : KeptRun g.row.K.Denot = record { stamps = c.self.inside.profiler; kept = c.self.inside.kept; next = c.self.inside.next; ended = c.self.inside.ended.items; steps = c.self.inside.steps } in
     let same = ap (λ (s : State). record old { stamps = s }) c.in-None.ensures.same ∙ c.self.view_is in
-    subst (λ (k : KeptRun g.row.K.Denot). MayTake (IsProfileOf g.S.Stamp.MAX g.K.Keeper.holds) k (Ret c.args.tid c.args.target)) (sym same) c.requires
-
-pub returns-in-None-clause-observed : goal.returns-in-None-clause-observed
-returns-in-None-clause-observed g c =
-    let old : KeptRun g.row.K.Denot = record { stamps = c.self.inside.profiler; kept = c.self.inside.kept; next = c.self.inside.next; ended = c.self.inside.ended.items; steps = c.self.inside.steps } in
-    let same = ap (λ (s : State). record old { stamps = s }) c.in-None.ensures.same ∙ c.self.view_is in
-    subst (λ (k : KeptRun g.row.K.Denot). IfOk c.observe_apart-in-None.result (Observes (IsProfileOf g.S.Stamp.MAX g.K.Keeper.holds) (is_within g.S.Stamp.MAX) (Ret c.args.tid c.args.target) k c.observe_apart-in-None.new.self)) same c.observe_apart-in-None.ensures.observed
-
-pub returns-in-None-clause-refused : goal.returns-in-None-clause-refused
-returns-in-None-clause-refused g c =
-    let old : KeptRun g.row.K.Denot = record { stamps = c.self.inside.profiler; kept = c.self.inside.kept; next = c.self.inside.next; ended = c.self.inside.ended.items; steps = c.self.inside.steps } in
-    let same = ap (λ (s : State). record old { stamps = s }) c.in-None.ensures.same ∙ c.self.view_is in
-    subst (λ (k : KeptRun g.row.K.Denot). OnErr c.observe_apart-in-None.result (StandsAsBefore (IsProfileOf g.S.Stamp.MAX g.K.Keeper.holds) k c.observe_apart-in-None.new.self)) same c.observe_apart-in-None.ensures.refused
+    record {
+      observed = subst (λ (k : KeptRun g.row.K.Denot). IfOk c.observe_after_apart-in-None.result
+          (ObservesAfter (IsProfileOf g.S.Stamp.MAX g.K.Keeper.holds) (is_within g.S.Stamp.MAX) c.args.tid c.args.count (Ret c.args.returner c.args.target) k c.observe_after_apart-in-None.new.self))
+          same c.observe_after_apart-in-None.ensures.observed;
+    }

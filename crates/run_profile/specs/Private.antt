@@ -1,0 +1,2 @@
+-- What private functions promise one another. No public clause rests on it.
+pub mod Passing
