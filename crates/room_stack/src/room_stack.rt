@@ -8,7 +8,8 @@ use std::alloc::{AllocError, Global};
 use std::marker::Model;
 
 /// Items, of which the last to come is the first to go. Contracts see them as a list, the first to come first, and beside it the
-/// spare room: how many can be pushed without allocating. Only `push` lowers the room.
+/// spare room: how many can be pushed without allocating. Only `push` and
+/// `push_over` lower the room.
 #[derive(Drop)]
 pub struct RoomStack<T: Copy> {
     // The items, and behind them some that were popped.

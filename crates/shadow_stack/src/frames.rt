@@ -32,7 +32,7 @@ impl<S: Stamp> Returns for Entry<S> {
 }
 
 /// Frames by rising start stamps, each with its call. Contracts see the frames, the outermost first, and the calls, the innermost
-/// first. Only `push` and `reserve` allocate, and none but `push` lowers the room.
+/// first. Only `push` and `reserve` allocate, and none but `push` and `push_over` lowers the room.
 #[derive(Drop)]
 pub struct Frames<S: Stamp> {
     entries: RoomStack<Entry<S>>,
