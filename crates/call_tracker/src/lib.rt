@@ -16,4 +16,4 @@ pub use counted_calls::{BegunCall, ThreadCounts};
 pub use jumps::{JumpKind, kind};
 pub use missed::Missed;
 pub use open_calls::{OpenCall, OpenCalls};
-pub use returns::Returns;
+pub use returns::{Returns, top_returns_to};

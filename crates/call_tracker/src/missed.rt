@@ -128,6 +128,8 @@ impl Missed {
         ensures { (backs : List (Option ℕ)) → AreMissed backs self.old
             → AreMissed (take depth backs) self.new }
     {
-        self.low = self.low.min(depth);
+        if depth < self.low {
+            self.low = depth;
+        }
     }
 }

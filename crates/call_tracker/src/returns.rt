@@ -1,5 +1,5 @@
 //! How many open calls a return ends.
-ghost use Rattle.std.specs.Prelude.{◌≡◌, ◌≤◌, ℕ, Option, length, map, reverse, true};
+ghost use Rattle.std.specs.Prelude.{◌≡◌, ◌==◌, ◌≤◌, ℕ, Option, length, map, reverse, true};
 ghost use Rattle.trace_model.specs.Activations.{count_returned};
 
 use guest_words::Addr;
@@ -14,11 +14,11 @@ pub trait Returns: Copy {
         ensures { result ≡ back_of self.now };
 }
 
-/// Whether the innermost of the calls, the last, returns to the target.
+/// Whether the innermost of the calls, the last, returns to the target: whether a return to it ends that call and no other.
 #[inline(always)]
-pub(crate) fn top_returns_to<C: Returns>(target: Addr, calls: &[C]) -> bool
+pub fn top_returns_to<C: Returns>(target: Addr, calls: &[C]) -> bool
     ensures some { result ≡ true → 1 ≤ length calls.now }
-    ensures one { result ≡ true → count_returned target (map C.back_of (reverse calls.now)) ≡ 1 }
+    ensures one { result ≡ (count_returned target (map C.back_of (reverse calls.now)) == 1) }
 {
     match calls.last() {
         Some(call) => call.back() == Some(target),

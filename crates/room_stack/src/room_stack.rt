@@ -1,5 +1,5 @@
 //! The stack.
-ghost use Rattle.std.specs.Prelude.{◌≡◌, ◌+◌, ◌-◌, ◌<◌, ◌≤◌, ◌++◌, ◌∷◌, [], length, nat_lt, slice_get, slice_set, take, Some, IfNone, OnErr, OnOk, IsOk};
+ghost use Rattle.std.specs.Prelude.{◌≡◌, ◌+◌, ◌-◌, ◌<◌, ◌≤◌, ◌++◌, ◌∷◌, [], length, nat_lt, slice_get, slice_set, take, Some, IfNone, OnErr, OnOk, IsOk, true, false};
 ghost use Rattle.std.specs.Borrow.{sem};
 ghost use Rattle.std.specs.Option.{option_to_list};
 ghost use Rattle.std.specs.Vec.{vec_capacity};
@@ -8,7 +8,8 @@ use std::alloc::{AllocError, Global};
 use std::marker::Model;
 
 /// Items, of which the last to come is the first to go. Contracts see them as a list, the first to come first, and beside it the
-/// spare room: how many can be pushed without allocating. Only `push` lowers the room.
+/// spare room: how many can be pushed without allocating. Only `push` and
+/// `push_over` lower the room.
 #[derive(Drop)]
 pub struct RoomStack<T: Copy> {
     // The items, and behind them some that were popped.
@@ -108,6 +109,21 @@ impl<T: Copy> RoomStack<T> {
         self.items[self.depth] = item;
         self.depth += 1;
         Ok(())
+    }
+
+    /// One more item, where it writes over one that was popped, and `true`; else `false`, and nothing changes. It does not allocate.
+    #[inline(always)]
+    pub fn push_over(&mut self, item: T) -> bool
+        ensures pushed { result ≡ true → self.new.items ≡ self.old.items ++ item ∷ [] }
+        ensures same { result ≡ false → self.new ≡ self.old }
+        ensures lowered { self.old.spare ≤ self.new.spare + 1 }
+    {
+        if self.depth >= self.items.len() {
+            return false;
+        }
+        self.items[self.depth] = item;
+        self.depth += 1;
+        true
     }
 
     /// Takes the last item.

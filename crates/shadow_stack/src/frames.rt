@@ -1,12 +1,12 @@
 //! The frames, with their calls, and their search.
-ghost use Rattle.std.specs.Prelude.{◌≡◌, ◌≤◌, ◌<◌, ◌+◌, ◌-◌, ◌*◌, ◌^◌, ◌++◌, ◌∷◌, [], ℕ, length, map, All, IfNone, IfSome, IsOk, Some, OnOk, OnErr, nat_lt, true, slice_get, slice_index};
+ghost use Rattle.std.specs.Prelude.{◌≡◌, ◌==◌, ◌≤◌, ◌<◌, ◌+◌, ◌-◌, ◌*◌, ◌^◌, ◌++◌, ◌∷◌, [], ℕ, length, map, All, IfNone, IfSome, IsOk, Some, OnOk, OnErr, nat_lt, true, false, slice_get, slice_index};
 ghost use Rattle.std.specs.Option.{option_map, option_map_or};
 ghost use Rattle.trace_model.specs.Activations.{count_returned};
 ghost use Rattle.call_tracker.specs.ThreadCalls.{CountedCall};
 ghost use Rattle.shadow_stack.specs.Frames.{FitsPop, FitsSums, IsLastAtMost, IsMoved, IsPopped, IsRising, added, new_frame, plus, restarted, starts_of};
 
 use crate::{Steps, Sums};
-use call_tracker::{BegunCall, Missed, Returns};
+use call_tracker::{BegunCall, Missed, Returns, top_returns_to};
 use guest_words::Addr;
 use room_stack::RoomStack;
 use stamps::Stamp;
@@ -32,7 +32,7 @@ impl<S: Stamp> Returns for Entry<S> {
 }
 
 /// Frames by rising start stamps, each with its call. Contracts see the frames, the outermost first, and the calls, the innermost
-/// first. Only `push` and `reserve` allocate, and none but `push` lowers the room.
+/// first. Only `push` and `reserve` allocate, and none but `push` and `push_over` lowers the room.
 #[derive(Drop)]
 pub struct Frames<S: Stamp> {
     entries: RoomStack<Entry<S>>,
@@ -121,6 +121,33 @@ impl<S: Stamp> Frames<S> {
             call,
         })?;
         Ok(())
+    }
+
+    /// One more frame inside all the others, with its call and no sums, where it writes over one that was popped, and `true`; else
+    /// `false`, and nothing changes. It does not allocate.
+    #[inline(always)]
+    pub fn push_over(&mut self, start: S, call: BegunCall) -> bool
+        requires { All (λ s. s < S.number_of start) (starts_of self.old.list) }
+        ensures pushed { result ≡ true → self.new.list
+            ≡ self.old.list ++ new_frame (S.number_of start) ∷ [] }
+        ensures call { result ≡ true → self.new.calls ≡ call ∷ self.old.calls }
+        ensures same { result ≡ false → self.new ≡ self.old }
+        ensures lowered { self.old.spare ≤ self.new.spare + 1 }
+    {
+        self.entries.push_over(Entry {
+            start,
+            sums: Sums::NONE,
+            call,
+        })
+    }
+
+    /// Whether a return to the target ends the innermost call, and no other.
+    #[inline(always)]
+    pub fn ends_one(&self, target: Addr) -> bool
+        ensures { result ≡ (count_returned target
+            (map (λ (c : CountedCall). c.back) self.now.calls) == 1) }
+    {
+        top_returns_to(target, self.entries.as_slice())
     }
 
     /// How many calls a return to the target ends.

@@ -117,7 +117,7 @@ module _ (xs threads : List (ℕ × Stamped)) (is : xs ≡ threads) (t : ℕ) (o
   pub calls_were : calls_of threads t ≡ old.calls
   calls_were = ap calls_in there
 
-  now : (new : Stamped) → value_of (with_value xs t new) t ≡ Some new
+  pub now : (new : Stamped) → value_of (with_value xs t new) t ≡ Some new
   now new = value_of-with xs t new old here t ∙ ap (λ b. cond b (Some new) (value_of xs t)) (eq-eqb t t refl)
 
   -- the thread as it was, and as it is

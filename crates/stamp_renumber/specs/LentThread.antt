@@ -4,7 +4,7 @@ use Rattle.std.specs.Borrow.{Fml, Lends, MutBor, RattleType}
 use Rattle.guest_words.specs.ByThread.{with_value}
 use Rattle.shadow_pages.specs.Pages.{Page, Pages}
 use Rattle.shadow_pages.specs.Lending.{StampMembers, shadow_row}
-use Rattle.stamp_renumber.specs.Threads.{Live, calls_of, frames_of, pages_of, spare_of}
+use Rattle.stamp_renumber.specs.Threads.{Live, calls_of, frames_of, spare_of}
 use Rattle.stamp_renumber.specs.contracts.threads.Threads.{the_row}
 
 -- the thread has these pages

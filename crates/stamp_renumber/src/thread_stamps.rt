@@ -1,5 +1,5 @@
 //! What is kept of a thread.
-ghost use Rattle.std.specs.Prelude.{◌≡◌, ◌≤◌, ◌<◌, ◌+◌, ◌*◌, ◌^◌, ◌++◌, ◌∷◌, [], ℕ, All, Contains, IfOk, IfSome, OnOk, Some, length, map, nat_lt, slice_get};
+ghost use Rattle.std.specs.Prelude.{◌≡◌, ◌==◌, ◌≤◌, ◌<◌, ◌+◌, ◌*◌, ◌^◌, ◌++◌, ◌∷◌, [], ℕ, All, Contains, IfOk, IfSome, OnOk, Some, true, false, length, map, nat_lt, slice_get};
 ghost use Rattle.std.specs.Borrow.{sem};
 ghost use Rattle.std.specs.Vec.{vec_capacity};
 ghost use Rattle.std.specs.List.Sorted.{IsNonDecreasingBy};
@@ -126,6 +126,14 @@ impl<S: Stamp> ThreadStamps<S> {
         self.frames.ending(target)
     }
 
+    /// Whether a return to the target ends the innermost call, and no other.
+    #[inline(always)]
+    pub(crate) fn ends_one(&self, target: Addr) -> bool
+        ensures { result ≡ (returned_by target self.now.calls == 1) }
+    {
+        self.frames.ends_one(target)
+    }
+
     /// Makes the room for one more frame with its call.
     pub(crate) fn reserve(&mut self) -> Result<(), AllocError>
         ensures room { OnOk result (1 ≤ self.new.spare) }
@@ -160,6 +168,40 @@ impl<S: Stamp> ThreadStamps<S> {
     {
         let call = BegunCall::new(entry, back, self.counts);
         self.frames.push(start, call).unwrap();
+    }
+
+    /// Counts steps and then adds one more frame, with its call, where that needs no memory, and `true`; else `false`, and nothing
+    /// changes.
+    #[inline(always)]
+    pub(crate) fn begin_after(
+        &mut self,
+        steps: u64,
+        start: S,
+        entry: Addr,
+        back: Option<Addr>,
+    ) -> bool
+        requires fits { self.old.calls.counts.steps + steps < 2 ^ 64 }
+        requires above { All (λ s. s < S.number_of start) (starts_of self.old.frames) }
+        ensures frames { result ≡ true → self.new.frames
+            ≡ self.old.frames ++ new_frame (S.number_of start) ∷ [] }
+        ensures pages { self.new.pages ≡ self.old.pages }
+        ensures list { result ≡ true → self.new.calls.list
+            ≡ record { entry = entry; back = back; earlier = (steps_added steps self.old.calls).counts } ∷ self.old.calls.list }
+        ensures counts { result ≡ true → self.new.calls.counts
+            ≡ (steps_added steps self.old.calls).counts }
+        ensures lowered { self.old.spare ≤ self.new.spare + 1 }
+        ensures same { result ≡ false → self.new ≡ self.old }
+    {
+        let mut counts = self.counts;
+        counts.add_steps(steps);
+        if !self
+            .frames
+            .push_over(start, BegunCall::new(entry, back, counts))
+        {
+            return false;
+        }
+        self.counts = counts;
+        true
     }
 
     /// Adds to the sums of the frame at the place.

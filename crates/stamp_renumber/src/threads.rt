@@ -1,12 +1,14 @@
 //! The live threads.
-ghost use Rattle.std.specs.Prelude.{◌≡◌, ◌≤◌, ◌<◌, ◌+◌, ◌*◌, ◌^◌, ◌++◌, ◌∷◌, [], ℕ, Some, true, All, IfOk, IfSome, IsOk, OnErr, OnOk, is_some, length, slice_get};
+ghost use Rattle.std.specs.Prelude.{◌≡◌, ◌==◌, ◌≤◌, ◌<◌, ◌+◌, ◌*◌, ◌^◌, ◌++◌, ◌∷◌, [], ℕ, Some, true, false, All, IfNone, IfOk, IfSome, IsOk, OnErr, OnOk, is_some, length, slice_get};
 ghost use Rattle.std.specs.Borrow.{sem};
 ghost use Rattle.guest_words.specs.ByThread.{numbers, value_of, with_value, without_thread};
 ghost use Rattle.shadow_stack.specs.Frames.{FitsPop, FitsSums, IsPopped, added, new_frame, plus, starts_of};
 ghost use Rattle.shadow_pages.specs.Pages.{HasPlace};
 ghost use Rattle.call_tracker.specs.ThreadCalls.{no_counts};
+ghost use Rattle.stamp_renumber.specs.Begun.{IsBegun};
 ghost use Rattle.stamp_renumber.specs.Counted.{found_added, steps_added, with_calls};
 ghost use Rattle.stamp_renumber.specs.Returned.{IsReturned, returned_by};
+ghost use Rattle.stamp_renumber.specs.declared.thread_stamps.Returned.TheVariants.{One};
 ghost use Rattle.stamp_renumber.specs.Threads.{HasRoom, all_starts, calls_of, frames_of, has_room, own_of, pages_of, spare_of, stamped};
 ghost use Rattle.stamp_renumber.specs.Ticks.{IsRenumbered};
 ghost use Rattle.stamp_renumber.specs.WordRead.{IsWordRead};
@@ -24,7 +26,7 @@ use std::marker::Model;
 
 /// Live threads, each with its frames and their calls, and the stamps of its accesses. A renumbering does not allocate: the threads hold
 /// work rows for it from the start, and room for the starts of all their frames, `frames` of them and `marks` more. No call but
-/// `begin` lowers the room for frames and their marks.
+/// `begin` and `begin_after` lowers the room for frames and their marks.
 #[derive(Drop)]
 pub struct Threads<S: Lanes> {
     alloc: Global,
@@ -202,6 +204,37 @@ impl<S: Lanes> Threads<S> {
         self.marks -= 1;
     }
 
+    /// Counts steps of the thread and then begins a call of it, where that needs no memory, and `true`; else `false`, and nothing
+    /// changes. The thread is looked up once.
+    #[inline(always)]
+    pub fn begin_after(
+        &mut self,
+        tid: Tid,
+        steps: u64,
+        start: S,
+        entry: Addr,
+        back: Option<Addr>,
+    ) -> bool
+        requires lives { is_some (value_of self.old.threads tid) ≡ true }
+        requires fits { (calls_of self.old.threads tid).counts.steps + steps < 2 ^ 64 }
+        requires above { All (λ s. s < S.number_of start)
+            (starts_of (frames_of self.old.threads tid)) }
+        ensures begun { result ≡ true → IsBegun tid (S.number_of start) entry back
+            (with_calls self.old tid (steps_added steps (calls_of self.old.threads tid))) self.new }
+        ensures same { result ≡ false → self.new ≡ self.old }
+    {
+        if self.marks == 0 {
+            return false;
+        }
+        let thread = self.threads.get_mut(tid).unwrap();
+        if !thread.begin_after(steps, start, entry, back) {
+            return false;
+        }
+        self.frames += 1;
+        self.marks -= 1;
+        true
+    }
+
     /// Adds to the sums of the thread's frame at the place.
     pub fn add_sum(&mut self, tid: Tid, i: usize, by: Sums)
         requires lives { is_some (value_of self.old.threads tid) ≡ true }
@@ -294,6 +327,31 @@ impl<S: Lanes> Threads<S> {
         self.frames -= 1;
         self.marks += 1;
         Returned::One(innermost)
+    }
+
+    /// Counts steps of the thread and then its return to the target, where that ends one call; None, and nothing changes, where it
+    /// ends none or several. The thread is looked up once.
+    #[inline(always)]
+    pub fn return_after(&mut self, tid: Tid, steps: u64, target: Addr) -> Option<EndedCall>
+        requires lives { is_some (value_of self.old.threads tid) ≡ true }
+        requires fits { (calls_of self.old.threads tid).counts.steps + steps < 2 ^ 64 }
+        requires frames { length (calls_of self.old.threads tid).list
+            ≤ length (frames_of self.old.threads tid) }
+        requires sums { FitsPop (frames_of self.old.threads tid) }
+        ensures ended { IfSome result (λ ended. IsReturned tid target
+            (with_calls self.old tid (steps_added steps (calls_of self.old.threads tid))) self.new (One ended)) }
+        ensures others { IfNone result ((returned_by target (calls_of self.old.threads tid) == 1) ≡ false) }
+        ensures same { IfNone result (self.new ≡ self.old) }
+    {
+        let thread = self.threads.get_mut(tid).unwrap();
+        if !thread.ends_one(target) {
+            return None;
+        }
+        thread.add_steps(steps);
+        let innermost = thread.pop();
+        self.frames -= 1;
+        self.marks += 1;
+        Some(innermost)
     }
 
     /// Whether the thread lives.

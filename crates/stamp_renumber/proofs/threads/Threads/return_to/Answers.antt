@@ -1,15 +1,17 @@
-use Rattle.std.proofs.Common.{◌≡◌, ◌∙◌, ◌∷◌, ℕ, List, length, ap, sym, subst, arith, Some}
+use Rattle.std.proofs.Common.{◌≡◌, ◌+◌, ◌∙◌, refl, ℕ, List, length, ap, sym, subst, arith, Some}
 use Rattle.std.specs.Option.{option_copied_mut}
 use Rattle.std.specs.Vec.{vec_capacity}
 use Rattle.std.proofs.lemmas.Bool.Decides.{nat_tests}
 use Rattle.guest_words.specs.ByThread.{value_of, with_value}
 use Rattle.guest_words.proofs.ThreadTables.{with_own}
 use Rattle.call_tracker.specs.ThreadCalls.{Calls}
-use Rattle.stamp_renumber.specs.Returned.{returned_by}
+use Rattle.stamp_renumber.specs.Returned.{IsReturned, returned_by}
+use Rattle.stamp_renumber.specs.declared.thread_stamps.Returned.TheVariants.{One}
+use Rattle.stamp_renumber.proofs.Called.{ended_one}
 use Rattle.shadow_stack.specs.Frames.{FitsPop, Frame, IsPopped}
 use Rattle.stamp_renumber.specs.Kept.{IsKept}
-use Rattle.stamp_renumber.specs.Threads.{Live, Stamped, frames_of}
-use Rattle.stamp_renumber.proofs.Changed.{calls_are, calls_were, changed_to, frames_are, frames_were, kept_changed, popped_one, spare_is, spare_was, starts_of_one}
+use Rattle.stamp_renumber.specs.Threads.{Live, Stamped}
+use Rattle.stamp_renumber.proofs.Changed.{calls_were, frames_were, kept_changed, popped_one, starts_of_one}
 use Rattle.stamp_renumber.proofs.threads.Threads.return_to.Goals as goal
 
 pub pop-innermost-requires-clause-frames : goal.pop-innermost-requires-clause-frames
@@ -103,35 +105,18 @@ invariant_of-self-2 g c =
 pub returns : goal.returns
 returns g c =
     let xs = c.self.inside.threads.list in
-    let threads = c.args.self.now.threads in
-    let is : xs ≡ threads = ap (λ (l : Live). l.threads) c.self.view_is in
     let t = c.args.tid in
-    let old : Stamped = c.unwrap-thread.result.now in
-    let same : c.ending-count.new.self ≡ old = c.ending-count.ensures.same in
-    let here : value_of xs t ≡ Some old = sym c.get_mut.ensures.found ∙ ap option_copied_mut c.unwrap-thread.ensures in
-    let new = c.pop-innermost.new.self in
-    let are = frames_are xs threads is t old here new in
-    let were = calls_were xs threads is t old here in
-    let pages = c.pop-innermost.ensures.pages ∙ ap (λ (s : Stamped). s.pages) same in
-    let list = c.pop-innermost.ensures.list in (
-      ap (returned_by c.args.target) were ∙ sym c.ending-count.ensures.count ∙ (let is = c.if-count-ne1.false in grind (arith, nat_tests, is)),
-      record {
-        popped =
-            subst (λ (fs : List Frame). IsPopped (frames_of threads t) (Some c.pop-innermost.result.sums) fs) (sym are)
-            (subst (λ (fs : List Frame). IsPopped fs (Some c.pop-innermost.result.sums) new.frames) (sym (frames_were xs threads is t old here)) (subst (λ (s : Stamped). IsPopped s.frames (Some c.pop-innermost.result.sums) c.pop-innermost.new.self.frames) same c.pop-innermost.ensures.popped));
-        threads = changed_to xs threads is t old here new _ (sym are) pages;
-        list =
-            ap (λ (k : Calls). k.list) were
-            ∙ sym (ap (λ (s : Stamped). s.calls.list) same)
-            ∙ list
-            ∙ ap (λ (k : Calls). c.pop-innermost.result.call ∷ k.list) (sym (calls_are xs threads is t old here new));
-        counts =
-            ap (λ (k : Calls). k.counts) (calls_are xs threads is t old here new)
-            ∙ c.pop-innermost.ensures.counts
-            ∙ ap (λ (s : Stamped). s.calls.counts) same
-            ∙ ap (λ (k : Calls). k.counts) (sym were);
-        counted = c.pop-innermost.ensures.counted ∙ ap (λ (s : Stamped). s.calls.counts) same ∙ ap (λ (k : Calls). k.counts) (sym were);
-        kept = omega (arith, spare_was xs threads is t old here, spare_is xs threads is t old here new, c.pop-innermost.ensures.kept, ap (λ (s : Stamped). s.spare) same);
-        marks = omega (arith, ap (λ (l : Live). l.marks) c.self.view_is);
-      },
+    let old : Stamped = c.ending-count.new.self in
+    let here : value_of xs t ≡ Some old = sym c.get_mut.ensures.found ∙ ap option_copied_mut c.unwrap-thread.ensures ∙ ap (λ (s : Stamped). Some s) (sym c.ending-count.ensures.same) in
+    let marks = c.self.inside.marks in
+    let target = c.args.target in
+    let new : Stamped = c.pop-innermost.new.self in
+    let ended = c.pop-innermost.result in
+    let count = c.ending-count.ensures.count ∙ ap (λ (s : Stamped). returned_by target s.calls) (sym c.ending-count.ensures.same) in
+    let is = c.if-count-ne1.false in
+    let one : c.ending-count.result ≡ 1 = grind (arith, nat_tests, is) in
+    let popped = c.pop-innermost.ensures in
+    subst (λ (l : Live). IsReturned t target l (record { threads = with_value xs t new; marks = marks + 1 }) (One ended)) c.self.view_is (
+      ap (returned_by target) (calls_were xs xs refl t old here) ∙ sym count ∙ one,
+      ended_one xs t marks (marks + 1) old new here ended popped.popped popped.pages popped.list popped.counts popped.counted popped.kept refl,
     )
