@@ -241,7 +241,23 @@ impl<S: Lanes> Profiler<S> {
             → IsTaken S.MAX (Call tid entry back) (with_steps tid steps past) self.new [] [] }
         ensures same { result ≡ false → self.new ≡ self.old }
     {
-        false
+        if !is_running(self.last, tid) {
+            return false;
+        }
+        if self.is_full() {
+            return false;
+        }
+        if self.counter >= S::MAX {
+            return false;
+        }
+        let now = S::from_number(self.counter + 1);
+        if !self.threads.begin_after(tid, steps, now, entry, Some(back)) {
+            return false;
+        }
+        self.counter += 1;
+        self.weight += steps;
+        self.weight += 1;
+        true
     }
 
     /// Takes `steps` steps of the thread and then its return, and answers what is recorded of the activation that it ends, where the
@@ -255,9 +271,21 @@ impl<S: Lanes> Profiler<S> {
             (table_after_steps (bounded_tick S.MAX) tid steps (table_of_state self.old))) }
         ensures stands { (past : List Event) → StandsFor S.MAX self.old past
             → IfSome result (λ ended. IsTaken S.MAX (Ret tid target) (with_steps tid steps past) self.new [] (ended ∷ [])) }
+        ensures others { self.old.last ≡ Some tid → IfNone result ((count_returned target
+            (map (λ (c : CountedCall). c.back) (calls_of self.old.live.threads tid).list) == 1) ≡ false) }
         ensures same { IfNone result (self.new ≡ self.old) }
     {
-        None
+        if !is_running(self.last, tid) {
+            return None;
+        }
+        match self.threads.return_after(tid, steps, target) {
+            Some(ended) => {
+                self.weight += steps;
+                self.weight += 1;
+                Some(record_of(tid, ended))
+            }
+            None => None,
+        }
     }
 
     // Steps of the thread that made the last one.
@@ -858,7 +886,8 @@ fn is_switch(last: Option<Tid>, tid: Tid) -> bool
 // Whether the last step was by the thread.
 #[inline(always)]
 fn is_running(last: Option<Tid>, tid: Tid) -> bool
-    ensures { result ≡ true → last ≡ Some tid }
+    ensures runs { result ≡ true → last ≡ Some tid }
+    ensures exact { last ≡ Some tid → result ≡ true }
 {
     match last {
         Some(last) => last == tid,
