@@ -18,3 +18,4 @@ pub mod Carried
 pub mod PlainSteps
 pub mod RowOfSteps
 pub mod MadeSteps
+pub mod TriedSteps

@@ -41,7 +41,7 @@ use Rattle.guest_machine.proofs.Handed.{may_after, observes_behind}
 use Rattle.guest_machine.proofs.RowOfSteps.{may_hand, runs_handed}
 
 -- ---- the step of an instruction that is no call and no return
-step_accessed : (here new : ExecState) (tid : ℕ) (i : Instr) (accessed : Access) → IsInstructionAt here.memory here.registers.pc i
+pub step_accessed : (here new : ExecState) (tid : ℕ) (i : Instr) (accessed : Access) → IsInstructionAt here.memory here.registers.pc i
     → (Went accessed, new) ≡ effect tid i here → kind_of i ≡ Nothing → IsStepOf here new tid (Accessed accessed)
 step_accessed here new tid i accessed known effects none m is =
     steps_to m tid here is i (known_is here.memory here.registers.pc i known) accessed new effects (Step tid ∷ access_events tid accessed)

@@ -1,26 +1,29 @@
 //! Steps of one thread in a row, as long as their instructions can be known.
-ghost use Rattle.std.specs.Prelude.{◌≡◌, ◌≤◌, ◌<◌, ◌+◌, ◌%◌, ◌^◌, ◌++◌, IfOk, OnOk, length};
-ghost use Rattle.guest_memory.specs.Code.{IsCodeFrom};
+ghost use Rattle.std.specs.Prelude.{◌≡◌, ◌≤◌, ◌<◌, ◌+◌, ◌%◌, ◌^◌, ◌++◌, ◌∷◌, [], Ok, IfOk, OnOk, length};
+ghost use Rattle.guest_memory.specs.Code.{IsCodeFrom, IsInstructionAt};
+ghost use Rattle.guest_memory.specs.declared.reservations.Reservations.{Reservations};
 ghost use Rattle.rv_isa.specs.declared.instruction.Instr.{Instr};
+ghost use Rattle.rv_isa.specs.declared.instruction.Instr.TheVariants.{Load, Store};
 ghost use Rattle.guest_memory.specs.Guest.{memory_of};
 ghost use Rattle.rv_exec.specs.Effects.{exec_state_of};
 ghost use Rattle.rv_exec.specs.Registers.{with_pc};
+ghost use Rattle.trace_model.specs.declared.event_kinds.Event.TheVariants.{Read, Write};
 ghost use Rattle.trace_model.specs.declared.observer.Observed.TheVariants.{Taken};
 ghost use Rattle.trace_model.specs.Observing.{MayTakeAll, ObservesAll};
 ghost use Rattle.guest_machine.specs.Private.Carrying.{Carries, IsStateOf, MayCarry, ObservesFrom};
 ghost use Rattle.guest_machine.specs.Private.Making.{made_answer, made_row};
-ghost use Rattle.guest_machine.specs.Private.Rows.{Counts, IsPaused, MayCount, MayRun, RunsOn, answer_of, further_of, handed};
+ghost use Rattle.guest_machine.specs.Private.Rows.{Counts, IsPaused, MayCount, MayRun, RunsOn, answer_of, further_of, handed, tried_answer, tried_row};
 ghost use Rattle.guest_machine.specs.Machine.{MachineState};
 ghost use Rattle.guest_machine.specs.Told.{IsInstruction, done_by, steps_of};
 
 use crate::Advanced;
 use crate::known::{Reading, carry_out, carry_out_next, carry_out_reading};
 use crate::making::{Made, make_load, make_store};
-use crate::telling::observe_told;
+use crate::telling::{observe_told, observe_word_read, observe_word_written};
 use guest_memory::{Decoded, GuestMemory, Reservations, find_word};
-use guest_words::{Addr, Tid};
-use rv_exec::{Counter, Cpu, Cursor, execute_plain};
-use rv_isa::Instr;
+use guest_words::{Addr, Tid, Word};
+use rv_exec::{Counter, Cpu, Cursor, add_offset, execute_plain, load_word, store_word};
+use rv_isa::{Instr, LoadKind, Reg, StoreKind};
 use std::alloc::AllocError;
 use trace_model::{Observed, Observer};
 
@@ -78,6 +81,146 @@ fn hand_step<W: Observer>(
     let steps = row.plain + 1;
     row.hand();
     observe_told(tid, steps, advanced, observer)
+}
+
+// The same for a step that read one word.
+#[inline(always)]
+fn hand_read<W: Observer>(
+    row: &mut StepRow,
+    tid: Tid,
+    first: Word,
+    observer: &mut W,
+) -> Result<Observed, AllocError>
+    requires within { row.old.plain < row.old.left }
+    requires range { row.old.told + row.old.left < 2 ^ 64 }
+    requires next { MayTakeAll W.stands (W.fits observer.old) observer.old
+        (steps_of tid (row.old.plain + 1) ++ Read tid first 1 ∷ []) }
+    ensures row { row.new ≡ handed row.old }
+    ensures observed { IfOk result (ObservesAll W.stands (W.fits observer.old)
+        (steps_of tid (row.old.plain + 1) ++ Read tid first 1 ∷ []) observer.old observer.new) }
+    ensures same { W.fits observer.new ≡ W.fits observer.old }
+{
+    let steps = row.plain + 1;
+    row.hand();
+    observe_word_read(tid, steps, first, observer)
+}
+
+// The same for a step that wrote one word.
+#[inline(always)]
+fn hand_write<W: Observer>(
+    row: &mut StepRow,
+    tid: Tid,
+    first: Word,
+    observer: &mut W,
+) -> Result<Observed, AllocError>
+    requires within { row.old.plain < row.old.left }
+    requires range { row.old.told + row.old.left < 2 ^ 64 }
+    requires next { MayTakeAll W.stands (W.fits observer.old) observer.old
+        (steps_of tid (row.old.plain + 1) ++ Write tid first 1 ∷ []) }
+    ensures row { row.new ≡ handed row.old }
+    ensures observed { IfOk result (ObservesAll W.stands (W.fits observer.old)
+        (steps_of tid (row.old.plain + 1) ++ Write tid first 1 ∷ []) observer.old observer.new) }
+    ensures same { W.fits observer.new ≡ W.fits observer.old }
+{
+    let steps = row.plain + 1;
+    row.hand();
+    observe_word_written(tid, steps, first, observer)
+}
+
+// What became of a load or a store that was tried in the loop itself.
+enum Tried {
+    // It went, and the observer has taken it.
+    Taken,
+    // It went, and the observer refused an event of it.
+    Refused,
+    // It is left to the function for any load or store, and nothing changed.
+    Declined,
+}
+
+// Makes the next step of a row if it loads a word within a page that can be read. Each answer is made where it is known: the
+// compiler then keeps the ways that lead on apart.
+#[inline(always)]
+fn try_load<W: Observer>(
+    pc: &mut Cursor,
+    cpu: &mut Cpu,
+    memory: &GuestMemory,
+    tid: Tid,
+    kind: LoadKind,
+    rd: Reg,
+    base: Reg,
+    offset: i32,
+    row: &mut StepRow,
+    observer: &mut W,
+) -> Result<Tried, AllocError>
+    requires known { IsInstructionAt (memory_of memory.now) pc.old (Load kind rd base offset) }
+    requires run { (held : Reservations) × MayRun W.stands (W.fits observer.old) tid row.old
+        (exec_state_of (with_pc pc.old cpu.old) memory.now held) observer.old }
+    requires within { row.old.plain < row.old.left }
+    requires range { row.old.told + row.old.left < 2 ^ 64 }
+    ensures runs { (held : Reservations) → RunsOn W.stands (W.fits observer.old) tid
+        row.old (exec_state_of (with_pc pc.old cpu.old) memory.now held) observer.old
+        row.new (exec_state_of (with_pc pc.new cpu.new) memory.now held) observer.new
+        (tried_answer result) }
+    ensures row { row.new ≡ tried_row row.old result }
+    ensures again { result ≡ Ok Tried.Declined
+        → IsInstructionAt (memory_of memory.now) pc.new (Load kind rd base offset) }
+    ensures same { W.fits observer.new ≡ W.fits observer.old }
+{
+    let LoadKind::Lw = kind else {
+        return Ok(Tried::Declined);
+    };
+    let at = add_offset(cpu.value(base), offset);
+    let Some(first) = load_word(cpu, memory, rd, at) else {
+        return Ok(Tried::Declined);
+    };
+    pc.pass();
+    match hand_read(row, tid, first, observer) {
+        Ok(Observed::Taken) => Ok(Tried::Taken),
+        Ok(Observed::Refused) => Ok(Tried::Refused),
+        Err(e) => Err(e),
+    }
+}
+
+// The same for a store of a word within a page that can be written and has no decoded code, while no word is reserved.
+#[inline(always)]
+fn try_store<W: Observer>(
+    cpu: &mut Cpu,
+    memory: &mut GuestMemory,
+    held: &Reservations,
+    tid: Tid,
+    kind: StoreKind,
+    value: Reg,
+    base: Reg,
+    offset: i32,
+    row: &mut StepRow,
+    observer: &mut W,
+) -> Result<Tried, AllocError>
+    requires known { IsInstructionAt (memory_of memory.old) cpu.old.pc (Store kind value base offset) }
+    requires run { MayRun W.stands (W.fits observer.old) tid row.old
+        (exec_state_of cpu.old memory.old held.now) observer.old }
+    requires within { row.old.plain < row.old.left }
+    requires range { row.old.told + row.old.left < 2 ^ 64 }
+    ensures runs { RunsOn W.stands (W.fits observer.old) tid
+        row.old (exec_state_of cpu.old memory.old held.now) observer.old
+        row.new (exec_state_of cpu.new memory.new held.now) observer.new (tried_answer result) }
+    ensures row { row.new ≡ tried_row row.old result }
+    ensures again { result ≡ Ok Tried.Declined
+        → IsInstructionAt (memory_of memory.new) cpu.new.pc (Store kind value base offset) }
+    ensures same { W.fits observer.new ≡ W.fits observer.old }
+{
+    let StoreKind::Sw = kind else {
+        return Ok(Tried::Declined);
+    };
+    let at = add_offset(cpu.value(base), offset);
+    let Some(first) = store_word(memory, held, at, cpu.value(value)) else {
+        return Ok(Tried::Declined);
+    };
+    cpu.advance();
+    match hand_write(row, tid, first, observer) {
+        Ok(Observed::Taken) => Ok(Tried::Taken),
+        Ok(Observed::Refused) => Ok(Tried::Refused),
+        Err(e) => Err(e),
+    }
 }
 
 // Why the steps within a page of code end.
@@ -194,6 +337,12 @@ fn run_page<W: Observer>(
                 base,
                 offset,
             } => {
+                match try_load(pc, cpu, memory, tid, kind, rd, base, offset, row, observer) {
+                    Ok(Tried::Taken) => continue 'steps,
+                    Ok(Tried::Refused) => return Ok(Paused::Refused),
+                    Ok(Tried::Declined) => {}
+                    Err(e) => return Err(e),
+                }
                 let steps = row.plain + 1;
                 let made = make_load(
                     pc, cpu, memory, tid, kind, rd, base, offset, steps, observer,
@@ -317,13 +466,20 @@ fn run_further<W: Observer>(
                 value,
                 base,
                 offset,
-            } => {
-                let steps = row.plain + 1;
-                let made = make_store(
-                    cpu, memory, held, tid, kind, value, base, offset, steps, observer,
-                );
-                count_made(row, made)
-            }
+            } => match try_store(
+                cpu, memory, held, tid, kind, value, base, offset, row, observer,
+            ) {
+                Ok(Tried::Taken) => Ok(Further::Went),
+                Ok(Tried::Refused) => Ok(Further::Refused),
+                Ok(Tried::Declined) => {
+                    let steps = row.plain + 1;
+                    let made = make_store(
+                        cpu, memory, held, tid, kind, value, base, offset, steps, observer,
+                    );
+                    count_made(row, made)
+                }
+                Err(e) => Err(e),
+            },
             _ => {
                 let next = carry_out(cpu, memory, held, tid, instruction);
                 count_next(row, tid, next, observer)

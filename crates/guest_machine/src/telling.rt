@@ -135,6 +135,26 @@ fn observe_read<W: Observer>(
     observe_one(tid, steps, Event::Read { tid, first, count }, observer)
 }
 
+/// The same, where it read one word. It takes few arguments, so that the loop over known instructions, which read the word itself,
+/// calls it at little cost.
+#[inline(never)]
+pub(crate) fn observe_word_read<W: Observer>(
+    tid: Tid,
+    steps: u64,
+    first: Word,
+    observer: &mut W,
+) -> Result<Observed, AllocError>
+    requires some { 1 ≤ steps }
+    requires next { MayTakeAll W.stands (W.fits observer.old) observer.old
+        (steps_of tid steps ++ Read tid first 1 ∷ []) }
+    ensures observed { IfOk result (ObservesAll W.stands (W.fits observer.old)
+        (steps_of tid steps ++ Read tid first 1 ∷ []) observer.old observer.new) }
+    ensures same { W.fits observer.new ≡ W.fits observer.old }
+{
+    let count = 1;
+    observe_one(tid, steps, Event::Read { tid, first, count }, observer)
+}
+
 // Hands out `steps` steps of a thread, the last of which wrote these words.
 #[inline(never)]
 fn observe_write<W: Observer>(
@@ -151,6 +171,25 @@ fn observe_write<W: Observer>(
         (steps_of tid steps ++ Write tid first count ∷ []) observer.old observer.new) }
     ensures same { W.fits observer.new ≡ W.fits observer.old }
 {
+    observe_one(tid, steps, Event::Write { tid, first, count }, observer)
+}
+
+/// The same, where it wrote one word.
+#[inline(never)]
+pub(crate) fn observe_word_written<W: Observer>(
+    tid: Tid,
+    steps: u64,
+    first: Word,
+    observer: &mut W,
+) -> Result<Observed, AllocError>
+    requires some { 1 ≤ steps }
+    requires next { MayTakeAll W.stands (W.fits observer.old) observer.old
+        (steps_of tid steps ++ Write tid first 1 ∷ []) }
+    ensures observed { IfOk result (ObservesAll W.stands (W.fits observer.old)
+        (steps_of tid steps ++ Write tid first 1 ∷ []) observer.old observer.new) }
+    ensures same { W.fits observer.new ≡ W.fits observer.old }
+{
+    let count = 1;
     observe_one(tid, steps, Event::Write { tid, first, count }, observer)
 }
 

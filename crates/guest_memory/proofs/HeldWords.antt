@@ -1,11 +1,11 @@
 -- Reservations as a list of distinct threads: what a thread has after some are dropped or one is added.
-use Rattle.std.proofs.Common.{◌≡◌, ℕ, Bool, true, false, not, ◌&&◌, ◌==◌, cond, ◌≤◌, zero, suc, take, arith, List, [], ◌∷◌, ◌++◌, filter, Option, Some, None, refl, ap, sym, ◌∙◌, inl, inr}
+use Rattle.std.proofs.Common.{◌≡◌, ℕ, Bool, true, false, not, ◌&&◌, ◌==◌, cond, ◌≤◌, zero, suc, take, length, arith, List, [], ◌∷◌, ◌++◌, filter, Option, Some, None, refl, ap, sym, ◌∙◌, inl, inr}
 use Rattle.std.specs.Prelude.{is_none}
 use Rattle.std.specs.Option.{option_map_or}
 use Rattle.std.proofs.lemmas.Bool.{cases_eq, cases_Bool, and_parts, and_from, eq-eqb, ne_eqb}
 use Rattle.guest_memory.specs.Memory.{is_among}
 use Rattle.guest_memory.specs.declared.reservations.Invalidation.TheVariants.{OfThread, OnWords}
-use Rattle.guest_memory.specs.Reserved.{with_word, without_thread, is_by, after_write}
+use Rattle.guest_memory.specs.Reserved.{Reserved, nothing_reserved, with_word, without_thread, is_by, after_write}
 use Rattle.guest_memory.specs.Holders.{held_in, is_distinct, is_invalidated}
 
 -- a word, if it passes a test
@@ -124,6 +124,13 @@ turned false w = refl
 pub none_held : (P : List (ℕ × ℕ) → Type 0) (count : ℕ) (holders : List (ℕ × ℕ)) → count ≤ 0 → P [] → P (take count holders)
 none_held P zero holders none holds = holds
 none_held P (suc count) holders none holds = absurd (omega (arith, none))
+
+-- where no thread has one, there is no holder
+pub held_by_none : (count : ℕ) (holders : List (ℕ × ℕ)) → count ≤ length holders → held_in (take count holders) ≡ nothing_reserved → count ≤ 0
+held_by_none zero holders fits none = omega arith
+held_by_none (suc count) [] fits none = absurd (omega (arith, fits))
+held_by_none (suc count) ((t, w) ∷ rest) fits none =
+    let bad : Some w ≡ None = sym (held_first t w (take count rest) t refl) ∙ ap (λ (h : Reserved). h t) none in absurd (cc)
 
 -- the losses of a thread
 pass_other : (q tid : ℕ) (o : Option ℕ) → pass (λ w. not (q == tid)) o ≡ cond (q == tid) None o

@@ -6,13 +6,12 @@ use Rattle.std.proofs.lemmas.Bool.Decides.{nat_tests}
 use Rattle.std.proofs.lemmas.List.{get_or-set_other, get_or-set_same, get_or_past, get_or-replicate, length-replicate, get_or_append_left, get_or_push}
 use Rattle.guest_memory.specs.declared.refusal.Permission.TheVariants as permission
 use Rattle.guest_memory.specs.Memory.{Memory, loaded, with_bytes}
-use Rattle.guest_memory.specs.Code.{IsCodeOf, IsInstructionAt, known_of}
+use Rattle.guest_memory.specs.Code.{IsCodeOf, IsInstructionAt}
 use Rattle.guest_memory.specs.Private.HeldCode.{instruction_of}
 use Rattle.guest_memory.specs.Private.CodePages.{AreForgotten, IsIndex, known_in, no_code, page_at}
 use Rattle.guest_memory.proofs.KeptCode.{Holds, fetched, holds_after, is_instruction, loads_stay}
 use Rattle.rv_isa.specs.Table.{decoded}
 use Rattle.rv_isa.specs.declared.instruction.Instr.{Instr}
-use Rattle.rv_isa.specs.declared.instruction.Instr.TheVariants.{Lui, Auipc, Jal, Jalr, Branch, Load, Store, Immediate, Register, Atomic, Fence, FenceI, Ecall, Ebreak}
 
 abbrev pub Pages : Type 0
 Pages = List (ℕ × List (Option Instr))

@@ -1,5 +1,5 @@
 //! The guest's code, decoded by page.
-ghost use Rattle.std.specs.Prelude.{◌≡◌, ◌≢◌, ◌<◌, ◌≤◌, ◌+◌, ◌/◌, ◌%◌, ◌^◌, ℕ, List, Some, Ok, get_or, length, IfOk, IfSome, OnOk};
+ghost use Rattle.std.specs.Prelude.{◌≡◌, ◌≢◌, ◌<◌, ◌≤◌, ◌+◌, ◌/◌, ◌%◌, ◌^◌, ℕ, List, false, Some, Ok, get_or, length, IfOk, IfSome, OnOk};
 ghost use Rattle.guest_memory.specs.Private.CodePages.{IsIndex, known_in};
 ghost use Rattle.guest_memory.specs.Memory.{Memory, loaded, with_bytes};
 ghost use Rattle.guest_memory.specs.declared.refusal.Permission.TheVariants as permission;
@@ -55,8 +55,19 @@ impl CodeCache {
 
     /// The place of the code of an address's page: 0 where it has none.
     #[inline(always)]
-    pub fn place_of(&self, at: Addr) -> usize {
+    pub fn place_of(&self, at: Addr) -> usize
+        ensures { result ≡ get_or self.now.places.items (at / 4096) 0 }
+    {
         self.place(u64::from(at >> 12))
+    }
+
+    /// Whether the page of an address has code. As long as it has none, its bytes may change.
+    #[inline(always)]
+    pub fn has_code(&self, at: Addr) -> bool
+        ensures { result ≡ false → (m : Memory) (bytes : List ℕ) → at % 4096 + length bytes ≤ 4096
+            → HoldsCode self.now m → HoldsCode self.now (with_bytes m at bytes) }
+    {
+        self.place_of(at) != 0
     }
 
     /// The code of a page that is at this place, if one is.

@@ -1,5 +1,5 @@
 //! The words that threads have reserved.
-ghost use Rattle.std.specs.Prelude.{◌≡◌, ◌<◌, ◌≤◌, ◌-◌, true, not, take, length, filter};
+ghost use Rattle.std.specs.Prelude.{◌≡◌, ◌<◌, ◌≤◌, ◌-◌, ◌↔◌, IsTrue, true, not, take, length, filter};
 ghost use Rattle.guest_memory.specs.Holders.{held_in, is_distinct, is_invalidated};
 ghost use Rattle.guest_memory.specs.Memory.{is_among};
 ghost use Rattle.guest_memory.specs.Reserved.{HoldAtMost, nothing_reserved, with_word, without_thread, holds, after_write};
@@ -29,6 +29,14 @@ impl Reservations {
             holders: [(Tid::FIRST, Word::of(0)); THREADS],
             count: 0,
         }
+    }
+
+    /// Whether no thread has a reservation.
+    #[inline(always)]
+    pub fn is_empty(&self) -> bool
+        ensures { IsTrue result ↔ (reserved_by self.now ≡ nothing_reserved) }
+    {
+        self.count == 0
     }
 
     /// Reserves a word for a thread, in place of what it had. Fewer than `THREADS` other threads have a reservation.

@@ -1,5 +1,5 @@
 -- Plain instructions: one that goes, and a branch that faults.
-use Rattle.std.proofs.Common.{◌≡◌, ℕ, Bool, true, false, Option, Some, ap, inl, inr, ◌⊎◌, refl, subst, sym, ◌∙◌}
+use Rattle.std.proofs.Common.{◌≡◌, ℕ, Bool, true, false, Some, ap, inl, inr, ◌⊎◌, refl, subst, sym, ◌∙◌}
 use Rattle.std.specs.Prelude.{nat_eq, ◌%◌}
 use Rattle.guest_memory.specs.Memory.{Memory}
 use Rattle.guest_memory.specs.Reserved.{Reserved}

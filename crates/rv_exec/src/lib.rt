@@ -18,6 +18,6 @@ pub use counter::{Counter, Cursor};
 pub use cpu::Cpu;
 pub use instruction::{execute, execute_plain, execute_reading};
 pub use laws::every_instruction;
-pub use loads_and_stores::{load_words, store_words};
+pub use loads_and_stores::{load_word, load_words, store_word, store_words};
 pub use operations::add_offset;
 pub use outcome::{Access, Outcome};

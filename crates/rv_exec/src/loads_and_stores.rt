@@ -1,6 +1,8 @@
 //! Loads and stores.
-ghost use Rattle.std.specs.Prelude.{◌≡◌, ◌<◌, ◌≤◌, ◌+◌, ◌*◌, ◌/◌, ◌%◌, ◌^◌, ℕ, IfOk, IfErr, Ok, Err, Some, if◌then◌else◌};
+ghost use Rattle.std.specs.Prelude.{◌≡◌, ◌<◌, ◌≤◌, ◌+◌, ◌*◌, ◌/◌, ◌%◌, ◌^◌, ℕ, IfOk, IfErr, IfSome, IfNone, Ok, Err, Some, if◌then◌else◌};
 ghost use Rattle.rv_isa.specs.Fields.{twos_complement};
+ghost use Rattle.rv_isa.specs.declared.instruction.LoadKind.TheVariants.{Lw};
+ghost use Rattle.rv_isa.specs.declared.instruction.StoreKind.TheVariants.{Sw};
 ghost use Rattle.guest_memory.specs.Guest.{memory_of};
 ghost use Rattle.guest_memory.specs.Memory.{byte_count, number_at, with_bytes};
 ghost use Rattle.guest_memory.specs.Reserved.{after_write};
@@ -265,4 +267,45 @@ pub fn store_words(
         ≡ stores tid kind at n (exec_state_of r memory.old held.old)) }
 {
     write(memory, held, tid, at, store_size(kind), n).ok_or(FaultKind::Store)
+}
+
+/// A load of a word but for the program counter, where the address is a multiple of 4 and its page can be read: the word that it
+/// reads. Otherwise None, which says nothing of the load, and nothing changes. Its code calls nothing.
+#[inline(always)]
+pub fn load_word(cpu: &mut Cpu, memory: &GuestMemory, rd: Reg, at: Addr) -> Option<Word>
+    ensures went { (pc : ℕ) → IfSome result (λ word.
+        (Went (access.Read word 1), with_pc ((pc + 4) % 2 ^ 32) cpu.new)
+        ≡ loads Lw rd at (memory_of memory.now) (with_pc pc cpu.old)) }
+    ensures same { IfNone result (cpu.new ≡ cpu.old) }
+{
+    if at % 4 != 0 {
+        return None;
+    }
+    match read_within(memory, at, Size::Four) {
+        Some(n) => {
+            cpu.write(rd, n);
+            Some(Word::of(at))
+        }
+        None => None,
+    }
+}
+
+/// A store of a word but for the program counter, where the address is a multiple of 4, its page can be written and has no decoded
+/// code, and no thread has a reservation: the word that it writes. Otherwise None, which says nothing of the store, and nothing
+/// changes. Its code calls nothing.
+#[inline(always)]
+pub fn store_word(memory: &mut GuestMemory, held: &Reservations, at: Addr, n: u32) -> Option<Word>
+    ensures went { (r : Registers) (tid : ℕ) → IfSome result (λ word.
+        (Went (access.Write word 1), exec_state_of (advanced r) memory.new held.now)
+        ≡ stores tid Sw at n (exec_state_of r memory.old held.now)) }
+    ensures same { IfNone result (memory_of memory.new ≡ memory_of memory.old) }
+{
+    if at % 4 != 0 || !held.is_empty() {
+        return None;
+    }
+    if memory.store_word(at, n) {
+        Some(Word::of(at))
+    } else {
+        None
+    }
 }

@@ -13,6 +13,8 @@ use Rattle.guest_machine.specs.declared.rows.Paused.{Paused}
 use Rattle.guest_machine.specs.declared.rows.Paused.TheVariants as paused
 use Rattle.guest_machine.specs.declared.rows.Further.{Further}
 use Rattle.guest_machine.specs.declared.rows.Further.TheVariants as further
+use Rattle.guest_machine.specs.declared.rows.Tried.{Tried}
+use Rattle.guest_machine.specs.declared.rows.Tried.TheVariants as tried
 use Rattle.guest_machine.specs.declared.stepped.Advanced.{Advanced}
 use Rattle.guest_machine.specs.Machine.{MachineState}
 use Rattle.guest_machine.specs.Private.Carrying.{Carries, GoesWith, IsStateOf, IsStepOf, MayCarry}
@@ -82,6 +84,17 @@ abbrev pub further_of : Result Further AllocError → Result Observed AllocError
 further_of (Ok further.Refused) = Ok observed.Refused
 further_of (Ok other) = Ok observed.Taken
 further_of (Err e) = Err e
+
+-- ---- a load or a store of a word that is tried in the loop itself
+abbrev pub tried_answer : Result Tried AllocError → Result Observed AllocError
+tried_answer (Ok tried.Refused) = Ok observed.Refused
+tried_answer (Ok other) = Ok observed.Taken
+tried_answer (Err e) = Err e
+
+-- the row afterwards
+abbrev pub tried_row : StepRow → Result Tried AllocError → StepRow
+tried_row row (Ok tried.Declined) = row
+tried_row row other = handed row
 
 -- ---- the next step
 -- what became of the next instruction: it went, or changed nothing

@@ -1,11 +1,14 @@
-use Rattle.std.proofs.Common.{◌≡◌, ◌≤◌, ◌+◌, Ok, IfOk, OnErr, sym, ap, subst, ◌∙◌, arith}
+use Rattle.std.proofs.Common.{◌≡◌, ◌≤◌, ◌<◌, ◌+◌, Ok, Err, IfOk, OnErr, sym, ap, subst, ◌∙◌, arith}
 use Rattle.guest_memory.specs.Guest.{memory_of}
 use Rattle.rv_exec.specs.Effects.{exec_state_of}
 use Rattle.guest_machine.specs.declared.rows.Paused.{Paused}
+use Rattle.guest_machine.specs.declared.rows.StepRow.{StepRow}
+use Rattle.guest_machine.specs.declared.rows.Tried.{Tried}
 use Rattle.guest_machine.specs.Private.Making.{Makes, MayMake}
-use Rattle.guest_machine.specs.Private.Rows.{Counts, HasMade, IsPaused, MayCount, RunsOn, answer_of, further_of}
+use Rattle.guest_machine.specs.Private.Rows.{Counts, HasMade, IsPaused, MayCount, MayRun, RunsOn, answer_of, further_of, handed, tried_row}
 use Rattle.guest_machine.proofs.MadeSteps.{counted, may_make}
-use Rattle.guest_machine.proofs.RowOfSteps.{is_next, made_so_far, state_here}
+use Rattle.guest_machine.proofs.RowOfSteps.{handed_grows, is_next, made_so_far, state_here}
+use Rattle.guest_machine.proofs.TriedSteps.{runs_through}
 use Rattle.guest_machine.proofs.rows.run_further.Goals as goal
 
 pub carry_out-next-requires-clause-state : goal.carry_out-next-requires-clause-state
@@ -166,6 +169,78 @@ returns-in-Err-carry_out_next-clause-runs g c = λ first began most run.
     subst (HasMade tid first most c.run_page_at.new.row) (sym kept)
     (made_so_far g.W.Observer.stands (g.W.Observer.fits old) (g.W.Observer.steps_fit old) tid first began most c.run_page_at.new.row here c.run_page_at.new.observer (goes first began most run))
 
+pub try_store-requires-clause-run : goal.try_store-requires-clause-run
+try_store-requires-clause-run g c =
+    let old = c.args.observer.now in
+    let tid = c.args.tid in
+    let begun = exec_state_of c.args.cpu.now c.args.memory.now c.args.held.now in
+    let here = exec_state_of c.run_page_at.new.cpu c.args.memory.now c.args.held.now in
+    let page = c.in-Ok-MayWrite.is ∙ ap (λ (p : Paused). Ok p) c.in-Ok-MayWrite.field-0-is in
+    let goes = subst (λ r. RunsOn g.W.Observer.stands (g.W.Observer.fits old) tid c.args.row.now begun old c.run_page_at.new.row here c.run_page_at.new.observer (answer_of r)) page c.run_page_at.ensures.runs in
+    let r = c.requires.run in
+    subst (λ fits. MayRun g.W.Observer.stands fits tid c.run_page_at.new.row here c.run_page_at.new.observer) (sym c.run_page_at.ensures.same)
+    (record { first = r.first; old = r.old; most = r.most; run = goes r.first r.old r.most r.run })
+
+pub try_store-requires-clause-range : goal.try_store-requires-clause-range
+try_store-requires-clause-range g c =
+    let old = c.args.observer.now in
+    let tid = c.args.tid in
+    let begun = exec_state_of c.args.cpu.now c.args.memory.now c.args.held.now in
+    let here = exec_state_of c.run_page_at.new.cpu c.args.memory.now c.args.held.now in
+    let page = c.in-Ok-MayWrite.is ∙ ap (λ (p : Paused). Ok p) c.in-Ok-MayWrite.field-0-is in
+    let goes = subst (λ r. RunsOn g.W.Observer.stands (g.W.Observer.fits old) tid c.args.row.now begun old c.run_page_at.new.row here c.run_page_at.new.observer (answer_of r)) page c.run_page_at.ensures.runs in
+    let r = c.requires.run in
+    let run = goes r.first r.old r.most r.run in
+    omega (arith, run.room, r.run.room, c.requires.range)
+
+pub returns-in-Ok-Taken-clause-runs : goal.returns-in-Ok-Taken-clause-runs
+returns-in-Ok-Taken-clause-runs g c =
+    let old = c.args.observer.now in
+    let tid = c.args.tid in
+    let begun = exec_state_of c.args.cpu.now c.args.memory.now c.args.held.now in
+    let here = exec_state_of c.run_page_at.new.cpu c.args.memory.now c.args.held.now in
+    let page = c.in-Ok-MayWrite.is ∙ ap (λ (p : Paused). Ok p) c.in-Ok-MayWrite.field-0-is in
+    let goes = subst (λ r. RunsOn g.W.Observer.stands (g.W.Observer.fits old) tid c.args.row.now begun old c.run_page_at.new.row here c.run_page_at.new.observer (answer_of r)) page c.run_page_at.ensures.runs in
+    let there = exec_state_of c.try_store.new.cpu c.try_store.new.memory c.args.held.now in
+    let is = c.in-Ok-Taken.is ∙ ap (λ (t : Tried). Ok t) c.in-Ok-Taken.field-0-is in
+    let on = runs_through g.W.Observer.stands (g.W.Observer.fits old) (g.W.Observer.fits c.run_page_at.new.observer) c.run_page_at.ensures.same tid c.args.row.now begun old
+    c.run_page_at.new.row here c.run_page_at.new.observer goes c.try_store.new.row there c.try_store.new.observer c.try_store.result c.try_store.ensures.runs (Ok Tried.Taken) is in
+    on
+
+pub returns-in-Ok-Taken-clause-grows : goal.returns-in-Ok-Taken-clause-grows
+returns-in-Ok-Taken-clause-grows g c =
+    let row : c.try_store.new.row ≡ handed c.run_page_at.new.row = c.try_store.ensures.row ∙ ap (tried_row c.run_page_at.new.row) (c.in-Ok-Taken.is ∙ ap (λ (t : Tried). Ok t) c.in-Ok-Taken.field-0-is) in
+    let grown = handed_grows c.run_page_at.new.row c.try_store.new.row row in
+    λ went. omega (arith, c.run_page_at.ensures.grows, grown)
+
+pub returns-in-Ok-Refused-try_store-clause-runs : goal.returns-in-Ok-Refused-try_store-clause-runs
+returns-in-Ok-Refused-try_store-clause-runs g c =
+    let old = c.args.observer.now in
+    let tid = c.args.tid in
+    let begun = exec_state_of c.args.cpu.now c.args.memory.now c.args.held.now in
+    let here = exec_state_of c.run_page_at.new.cpu c.args.memory.now c.args.held.now in
+    let page = c.in-Ok-MayWrite.is ∙ ap (λ (p : Paused). Ok p) c.in-Ok-MayWrite.field-0-is in
+    let goes = subst (λ r. RunsOn g.W.Observer.stands (g.W.Observer.fits old) tid c.args.row.now begun old c.run_page_at.new.row here c.run_page_at.new.observer (answer_of r)) page c.run_page_at.ensures.runs in
+    let there = exec_state_of c.try_store.new.cpu c.try_store.new.memory c.args.held.now in
+    let is = c.in-Ok-Refused-try_store.is ∙ ap (λ (t : Tried). Ok t) c.in-Ok-Refused-try_store.field-0-is in
+    let on = runs_through g.W.Observer.stands (g.W.Observer.fits old) (g.W.Observer.fits c.run_page_at.new.observer) c.run_page_at.ensures.same tid c.args.row.now begun old
+    c.run_page_at.new.row here c.run_page_at.new.observer goes c.try_store.new.row there c.try_store.new.observer c.try_store.result c.try_store.ensures.runs (Ok Tried.Refused) is in
+    on
+
+pub returns-in-Err-try_store-clause-runs : goal.returns-in-Err-try_store-clause-runs
+returns-in-Err-try_store-clause-runs g c =
+    let old = c.args.observer.now in
+    let tid = c.args.tid in
+    let begun = exec_state_of c.args.cpu.now c.args.memory.now c.args.held.now in
+    let here = exec_state_of c.run_page_at.new.cpu c.args.memory.now c.args.held.now in
+    let page = c.in-Ok-MayWrite.is ∙ ap (λ (p : Paused). Ok p) c.in-Ok-MayWrite.field-0-is in
+    let goes = subst (λ r. RunsOn g.W.Observer.stands (g.W.Observer.fits old) tid c.args.row.now begun old c.run_page_at.new.row here c.run_page_at.new.observer (answer_of r)) page c.run_page_at.ensures.runs in
+    let there = exec_state_of c.try_store.new.cpu c.try_store.new.memory c.args.held.now in
+    let is = c.in-Err-try_store.is in
+    let on = runs_through g.W.Observer.stands (g.W.Observer.fits old) (g.W.Observer.fits c.run_page_at.new.observer) c.run_page_at.ensures.same tid c.args.row.now begun old
+    c.run_page_at.new.row here c.run_page_at.new.observer goes c.try_store.new.row there c.try_store.new.observer c.try_store.result c.try_store.ensures.runs (Err c.in-Err-try_store.e) is in
+    on
+
 pub overflow_add-steps : goal.overflow_add-steps
 overflow_add-steps g c =
     let old = c.args.observer.now in
@@ -173,11 +248,18 @@ overflow_add-steps g c =
     let begun = exec_state_of c.args.cpu.now c.args.memory.now c.args.held.now in
     let here = exec_state_of c.run_page_at.new.cpu c.args.memory.now c.args.held.now in
     let page = c.in-Ok-MayWrite.is ∙ ap (λ (p : Paused). Ok p) c.in-Ok-MayWrite.field-0-is in
-    let next = subst (λ r. IfOk r (IsPaused (memory_of c.args.memory.now) c.run_page_at.new.cpu.pc c.run_page_at.new.row)) page c.run_page_at.ensures.next in
     let goes = subst (λ r. RunsOn g.W.Observer.stands (g.W.Observer.fits old) tid c.args.row.now begun old c.run_page_at.new.row here c.run_page_at.new.observer (answer_of r)) page c.run_page_at.ensures.runs in
+    let there = exec_state_of c.try_store.new.cpu c.try_store.new.memory c.args.held.now in
+    let is = c.in-Ok-Declined.is ∙ ap (λ (t : Tried). Ok t) c.in-Ok-Declined.field-0-is in
+    let on = runs_through g.W.Observer.stands (g.W.Observer.fits old) (g.W.Observer.fits c.run_page_at.new.observer) c.run_page_at.ensures.same tid c.args.row.now begun old
+    c.run_page_at.new.row here c.run_page_at.new.observer goes c.try_store.new.row there c.try_store.new.observer c.try_store.result c.try_store.ensures.runs (Ok Tried.Declined) is in
+    let next = subst (λ r. IfOk r (IsPaused (memory_of c.args.memory.now) c.run_page_at.new.cpu.pc c.run_page_at.new.row)) page c.run_page_at.ensures.next in
+    let still : c.try_store.new.row ≡ c.run_page_at.new.row = c.try_store.ensures.row ∙ ap (tried_row c.run_page_at.new.row) is in
+    let low = subst (λ (r : StepRow). r.plain < r.left) (sym still) next.0 in
+    let same = c.try_store.ensures.same ∙ c.run_page_at.ensures.same in
     let r = c.requires.run in
-    let run = goes r.first r.old r.most r.run in
-    omega (arith, next.0, run.room, r.run.room, c.requires.range)
+    let run = on r.first r.old r.most r.run in
+    omega (arith, low, run.room, r.run.room, c.requires.range)
 
 pub make_store-made-requires-clause-may : goal.make_store-made-requires-clause-may
 make_store-made-requires-clause-may g c =
@@ -186,12 +268,19 @@ make_store-made-requires-clause-may g c =
     let begun = exec_state_of c.args.cpu.now c.args.memory.now c.args.held.now in
     let here = exec_state_of c.run_page_at.new.cpu c.args.memory.now c.args.held.now in
     let page = c.in-Ok-MayWrite.is ∙ ap (λ (p : Paused). Ok p) c.in-Ok-MayWrite.field-0-is in
-    let next = subst (λ r. IfOk r (IsPaused (memory_of c.args.memory.now) c.run_page_at.new.cpu.pc c.run_page_at.new.row)) page c.run_page_at.ensures.next in
     let goes = subst (λ r. RunsOn g.W.Observer.stands (g.W.Observer.fits old) tid c.args.row.now begun old c.run_page_at.new.row here c.run_page_at.new.observer (answer_of r)) page c.run_page_at.ensures.runs in
+    let there = exec_state_of c.try_store.new.cpu c.try_store.new.memory c.args.held.now in
+    let is = c.in-Ok-Declined.is ∙ ap (λ (t : Tried). Ok t) c.in-Ok-Declined.field-0-is in
+    let on = runs_through g.W.Observer.stands (g.W.Observer.fits old) (g.W.Observer.fits c.run_page_at.new.observer) c.run_page_at.ensures.same tid c.args.row.now begun old
+    c.run_page_at.new.row here c.run_page_at.new.observer goes c.try_store.new.row there c.try_store.new.observer c.try_store.result c.try_store.ensures.runs (Ok Tried.Declined) is in
+    let next = subst (λ r. IfOk r (IsPaused (memory_of c.args.memory.now) c.run_page_at.new.cpu.pc c.run_page_at.new.row)) page c.run_page_at.ensures.next in
+    let still : c.try_store.new.row ≡ c.run_page_at.new.row = c.try_store.ensures.row ∙ ap (tried_row c.run_page_at.new.row) is in
+    let low = subst (λ (r : StepRow). r.plain < r.left) (sym still) next.0 in
+    let same = c.try_store.ensures.same ∙ c.run_page_at.ensures.same in
     let r = c.requires.run in
-    let run = goes r.first r.old r.most r.run in
-    subst (λ fits. MayMake g.W.Observer.stands fits tid (c.run_page_at.new.row.plain + 1) here c.run_page_at.new.observer) (sym c.run_page_at.ensures.same)
-    (may_make g.W.Observer.stands (g.W.Observer.fits old) tid c.run_page_at.new.row next.0 here c.run_page_at.new.observer r.first r.old r.most run)
+    let run = on r.first r.old r.most r.run in
+    subst (λ fits. MayMake g.W.Observer.stands fits tid (c.try_store.new.row.plain + 1) there c.try_store.new.observer) (sym same)
+    (may_make g.W.Observer.stands (g.W.Observer.fits old) tid c.try_store.new.row low there c.try_store.new.observer r.first r.old r.most run)
 
 pub count_made-requires-clause-range : goal.count_made-requires-clause-range
 count_made-requires-clause-range g c =
@@ -200,29 +289,41 @@ count_made-requires-clause-range g c =
     let begun = exec_state_of c.args.cpu.now c.args.memory.now c.args.held.now in
     let here = exec_state_of c.run_page_at.new.cpu c.args.memory.now c.args.held.now in
     let page = c.in-Ok-MayWrite.is ∙ ap (λ (p : Paused). Ok p) c.in-Ok-MayWrite.field-0-is in
-    let next = subst (λ r. IfOk r (IsPaused (memory_of c.args.memory.now) c.run_page_at.new.cpu.pc c.run_page_at.new.row)) page c.run_page_at.ensures.next in
     let goes = subst (λ r. RunsOn g.W.Observer.stands (g.W.Observer.fits old) tid c.args.row.now begun old c.run_page_at.new.row here c.run_page_at.new.observer (answer_of r)) page c.run_page_at.ensures.runs in
+    let there = exec_state_of c.try_store.new.cpu c.try_store.new.memory c.args.held.now in
+    let is = c.in-Ok-Declined.is ∙ ap (λ (t : Tried). Ok t) c.in-Ok-Declined.field-0-is in
+    let on = runs_through g.W.Observer.stands (g.W.Observer.fits old) (g.W.Observer.fits c.run_page_at.new.observer) c.run_page_at.ensures.same tid c.args.row.now begun old
+    c.run_page_at.new.row here c.run_page_at.new.observer goes c.try_store.new.row there c.try_store.new.observer c.try_store.result c.try_store.ensures.runs (Ok Tried.Declined) is in
+    let next = subst (λ r. IfOk r (IsPaused (memory_of c.args.memory.now) c.run_page_at.new.cpu.pc c.run_page_at.new.row)) page c.run_page_at.ensures.next in
+    let still : c.try_store.new.row ≡ c.run_page_at.new.row = c.try_store.ensures.row ∙ ap (tried_row c.run_page_at.new.row) is in
+    let low = subst (λ (r : StepRow). r.plain < r.left) (sym still) next.0 in
+    let same = c.try_store.ensures.same ∙ c.run_page_at.ensures.same in
     let r = c.requires.run in
-    let run = goes r.first r.old r.most r.run in
+    let run = on r.first r.old r.most r.run in
     omega (arith, run.room, r.run.room, c.requires.range)
 
-pub returns-in-Store-clause-runs : goal.returns-in-Store-clause-runs
-returns-in-Store-clause-runs g c =
+pub returns-in-Ok-Declined-clause-runs : goal.returns-in-Ok-Declined-clause-runs
+returns-in-Ok-Declined-clause-runs g c =
     let old = c.args.observer.now in
     let tid = c.args.tid in
     let begun = exec_state_of c.args.cpu.now c.args.memory.now c.args.held.now in
     let here = exec_state_of c.run_page_at.new.cpu c.args.memory.now c.args.held.now in
     let page = c.in-Ok-MayWrite.is ∙ ap (λ (p : Paused). Ok p) c.in-Ok-MayWrite.field-0-is in
-    let next = subst (λ r. IfOk r (IsPaused (memory_of c.args.memory.now) c.run_page_at.new.cpu.pc c.run_page_at.new.row)) page c.run_page_at.ensures.next in
     let goes = subst (λ r. RunsOn g.W.Observer.stands (g.W.Observer.fits old) tid c.args.row.now begun old c.run_page_at.new.row here c.run_page_at.new.observer (answer_of r)) page c.run_page_at.ensures.runs in
-    let r = c.requires.run in
-    let run = goes r.first r.old r.most r.run in
+    let there = exec_state_of c.try_store.new.cpu c.try_store.new.memory c.args.held.now in
+    let is = c.in-Ok-Declined.is ∙ ap (λ (t : Tried). Ok t) c.in-Ok-Declined.field-0-is in
+    let on = runs_through g.W.Observer.stands (g.W.Observer.fits old) (g.W.Observer.fits c.run_page_at.new.observer) c.run_page_at.ensures.same tid c.args.row.now begun old
+    c.run_page_at.new.row here c.run_page_at.new.observer goes c.try_store.new.row there c.try_store.new.observer c.try_store.result c.try_store.ensures.runs (Ok Tried.Declined) is in
+    let next = subst (λ r. IfOk r (IsPaused (memory_of c.args.memory.now) c.run_page_at.new.cpu.pc c.run_page_at.new.row)) page c.run_page_at.ensures.next in
+    let still : c.try_store.new.row ≡ c.run_page_at.new.row = c.try_store.ensures.row ∙ ap (tried_row c.run_page_at.new.row) is in
+    let low = subst (λ (r : StepRow). r.plain < r.left) (sym still) next.0 in
+    let same = c.try_store.ensures.same ∙ c.run_page_at.ensures.same in
     let new = exec_state_of c.make_store-made.new.cpu c.make_store-made.new.memory c.make_store-made.new.held in
-    let makes = subst (λ fits. Makes g.W.Observer.stands fits tid (c.run_page_at.new.row.plain + 1) here c.run_page_at.new.observer new c.make_store-made.new.observer c.make_store-made.result)
-    c.run_page_at.ensures.same c.make_store-made.ensures.made in
+    let makes = subst (λ fits. Makes g.W.Observer.stands fits tid (c.try_store.new.row.plain + 1) there c.try_store.new.observer new c.make_store-made.new.observer c.make_store-made.result)
+    same c.make_store-made.ensures.made in
     λ first began most run.
-    counted g.W.Observer.stands (g.W.Observer.fits old) tid c.run_page_at.new.row next.0 here c.run_page_at.new.observer new c.make_store-made.new.observer
-    c.make_store-made.result makes c.count_made.new.row c.count_made.ensures.row c.count_made.result c.count_made.ensures.further first began most (goes first began most run)
+    counted g.W.Observer.stands (g.W.Observer.fits old) tid c.try_store.new.row low there c.try_store.new.observer new c.make_store-made.new.observer
+    c.make_store-made.result makes c.count_made.new.row c.count_made.ensures.row c.count_made.result c.count_made.ensures.further first began most (on first began most run)
 
 pub returns-in_default-clause-runs : goal.returns-in_default-clause-runs
 returns-in_default-clause-runs g c = λ first began most run.
