@@ -193,68 +193,76 @@ impl<S: Lanes, K: Keeper> Profile<S, K> {
         }
     }
 
-    // Takes steps of a thread and its read of a word. Mostly the keeper has taken all, and the page of the word is there.
+    // Takes steps of a thread and its read. Mostly it is of one word, the keeper has taken all, and the page of the word is there.
     #[inline(always)]
     fn observe_read(
         &mut self,
         tid: Tid,
         count: u64,
         reader: Tid,
-        w: Word,
+        first: Word,
+        words: u32,
     ) -> Result<Observed, AllocError>
-        requires may { MayTakeAfter (IsProfileOf S.MAX K.holds) (is_within S.MAX) self.old tid count (Read reader w 1) }
+        requires may { MayTakeAfter (IsProfileOf S.MAX K.holds) (is_within S.MAX) self.old tid count (Read reader first words) }
         requires some { 1 ≤ count }
-        ensures observed { IfOk result (ObservesAfter (IsProfileOf S.MAX K.holds) (is_within S.MAX) tid count (Read reader w 1) self.old self.new) }
+        ensures observed { IfOk result (ObservesAfter (IsProfileOf S.MAX K.holds) (is_within S.MAX) tid count (Read reader first words) self.old self.new) }
     {
         let e = Event::Read {
             tid: reader,
-            first: w,
-            count: 1,
+            first,
+            count: words,
         };
+        if words != 1 {
+            return self.observe_after_apart(tid, count, e);
+        }
         if reader != tid {
             return self.observe_after_apart(tid, count, e);
         }
         if self.next.is_some() {
             return self.observe_after_apart(tid, count, e);
         }
-        match self.profiler.word_read(tid, w) {
+        match self.profiler.word_read(tid, first) {
             Some(access) => {
                 self.pass_after(tid, count, e);
-                self.profiler.read_after(tid, count, w, access);
+                self.profiler.read_after(tid, count, first, access);
                 Ok(Observed::Taken)
             }
             None => self.observe_after_apart(tid, count, e),
         }
     }
 
-    // Takes steps of a thread and its write of a word.
+    // Takes steps of a thread and its write.
     #[inline(always)]
     fn observe_write(
         &mut self,
         tid: Tid,
         count: u64,
         writer: Tid,
-        w: Word,
+        first: Word,
+        words: u32,
     ) -> Result<Observed, AllocError>
-        requires may { MayTakeAfter (IsProfileOf S.MAX K.holds) (is_within S.MAX) self.old tid count (Write writer w 1) }
+        requires may { MayTakeAfter (IsProfileOf S.MAX K.holds) (is_within S.MAX) self.old tid count (Write writer first words) }
         requires some { 1 ≤ count }
-        ensures observed { IfOk result (ObservesAfter (IsProfileOf S.MAX K.holds) (is_within S.MAX) tid count (Write writer w 1) self.old self.new) }
+        ensures observed { IfOk result (ObservesAfter (IsProfileOf S.MAX K.holds) (is_within S.MAX) tid count (Write writer first words) self.old self.new) }
     {
         let e = Event::Write {
             tid: writer,
-            first: w,
-            count: 1,
+            first,
+            count: words,
         };
+        if words != 1 {
+            return self.observe_after_apart(tid, count, e);
+        }
         if writer != tid {
             return self.observe_after_apart(tid, count, e);
         }
         if self.next.is_some() {
             return self.observe_after_apart(tid, count, e);
         }
-        match self.profiler.word_written(tid, w) {
+        match self.profiler.word_written(tid, first) {
             Some(written) => {
                 self.pass_after(tid, count, e);
-                self.profiler.write_after(tid, count, w, written);
+                self.profiler.write_after(tid, count, first, written);
                 Ok(Observed::Taken)
             }
             None => self.observe_after_apart(tid, count, e),
@@ -413,13 +421,13 @@ ghost use Rattle.run_profile.specs.Profile.{IsProfileOf};
             Event::Read {
                 tid: reader,
                 first,
-                count: 1,
-            } => self.observe_read(tid, count, reader, first),
+                count: words,
+            } => self.observe_read(tid, count, reader, first, words),
             Event::Write {
                 tid: writer,
                 first,
-                count: 1,
-            } => self.observe_write(tid, count, writer, first),
+                count: words,
+            } => self.observe_write(tid, count, writer, first, words),
             Event::Call {
                 tid: caller,
                 entry,

@@ -14,7 +14,7 @@ pub word_written-requires : goal.word_written-requires
 word_written-requires g c =
     let may = c.requires.may in
     let p = subst (λ (k : KeptRun g.row.K.Denot). IsProfileOf g.S.Stamp.MAX g.K.Keeper.holds k may.past) (sym c.self.view_is) may.now in
-    may_step g.S.Stamp.MAX c.args.tid c.args.count (Write c.args.writer c.args.w 1) c.self.inside.profiler may.past p.stands c.requires.some may.formed
+    may_step g.S.Stamp.MAX c.args.tid c.args.count (Write c.args.writer c.args.first c.args.words) c.self.inside.profiler may.past p.stands c.requires.some may.formed
 
 pub returns-in-Some : goal.returns-in-Some
 returns-in-Some g c = record {
@@ -27,8 +27,10 @@ returns-in-Some g c = record {
       ap (λ (k : KeptRun g.row.K.Denot). k.stamps) c.self-in-Some.view_is ∙ c.pass_after.ensures.stamps ∙ sym (ap (λ (k : KeptRun g.row.K.Denot). k.stamps) c.self.view_is) in
       let stands = subst (λ (s : State). StandsFor g.S.Stamp.MAX s past) (sym stamps) p.stands in
       let new = c.write_after.new.self in
-      let taken = subst (λ r. IsTaken g.S.Stamp.MAX (Write r c.args.w 1) (with_steps c.args.tid c.args.count past) new [] []) (sym same) (c.write_after.ensures.stands past stands) in (
-        subst (λ (k : KeptRun g.row.K.Denot). IsProfileOf g.S.Stamp.MAX g.K.Keeper.holds (record k { stamps = new }) (Write c.args.writer c.args.w 1 ∷ with_steps c.args.tid c.args.count past))
+      let one : c.args.words ≡ 1 = omega (arith, c.if-words-ne1.false) in
+      let own_event = subst (λ r. IsTaken g.S.Stamp.MAX (Write r c.args.first 1) (with_steps c.args.tid c.args.count past) new [] []) (sym same) (c.write_after.ensures.stands past stands) in
+      let taken = subst (λ n. IsTaken g.S.Stamp.MAX (Write c.args.writer c.args.first n) (with_steps c.args.tid c.args.count past) new [] []) (sym one) own_event in (
+        subst (λ (k : KeptRun g.row.K.Denot). IsProfileOf g.S.Stamp.MAX g.K.Keeper.holds (record k { stamps = new }) (Write c.args.writer c.args.first c.args.words ∷ with_steps c.args.tid c.args.count past))
         (sym c.self-in-Some.view_is) (c.pass_after.ensures.passed past new own taken),
         taken.fits,
       );
