@@ -6,6 +6,7 @@ ghost use Rattle.rv_asm.specs.Lines.{is_jump};
 ghost use Rattle.rv_asm.specs.Refusals.{IsAccepted};
 ghost use Rattle.rv_asm.specs.Draft.{with_label, with_line, with_binding};
 ghost use Rattle.demo_guest.specs.Private.Drafts.{jump, plain};
+ghost use Rattle.rv_asm.specs.declared.limits.TheConstants.{PROGRAM_LINES};
 
 use rv_asm::{AsmError, Builder, Code, Label};
 use rv_isa::Instr;
@@ -13,7 +14,7 @@ use std::alloc::AllocError;
 
 /// Appends an instruction that has a word.
 pub(crate) fn emit(program: &mut Builder, instruction: Instr) -> Result<(), AllocError>
-    requires room { length program.old.lines < 4000000 }
+    requires room { length program.old.lines < PROGRAM_LINES }
     requires encodable { IsEncodable instruction }
     ensures line { OnOk result (program.new ≡ with_line program.old (plain instruction)) }
 {
@@ -26,7 +27,7 @@ pub(crate) fn emit(program: &mut Builder, instruction: Instr) -> Result<(), Allo
 
 /// Appends instructions that have words.
 pub(crate) fn emit_all(program: &mut Builder, instructions: &[Instr]) -> Result<(), AllocError>
-    requires room { length program.old.lines + length instructions.now ≤ 4000000 }
+    requires room { length program.old.lines + length instructions.now ≤ PROGRAM_LINES }
     requires encodable { All IsEncodable instructions.now }
     ensures lines { OnOk result (program.new.lines
         ≡ program.old.lines ++ map plain instructions.now) }
@@ -40,7 +41,7 @@ pub(crate) fn emit_all(program: &mut Builder, instructions: &[Instr]) -> Result<
 
 /// Makes a label.
 pub(crate) fn label(program: &mut Builder) -> Result<Label, AllocError>
-    requires room { length program.old.bindings < 4000000 }
+    requires room { length program.old.bindings < PROGRAM_LINES }
     ensures made { OnOk result (program.new ≡ with_label program.old) }
     ensures number { IfOk result (λ label. label ≡ length program.old.bindings) }
 {
@@ -53,7 +54,7 @@ pub(crate) fn label(program: &mut Builder) -> Result<Label, AllocError>
 
 /// Appends a jump to a label.
 pub(crate) fn jump(program: &mut Builder, instruction: Instr, to: Label) -> Result<(), AllocError>
-    requires room { length program.old.lines < 4000000 }
+    requires room { length program.old.lines < PROGRAM_LINES }
     requires label { to < length program.old.bindings }
     requires jump { is_jump instruction ≡ true }
     ensures line { OnOk result (program.new ≡ with_line program.old (jump instruction to)) }
