@@ -24,7 +24,7 @@ fn named(alloc: Global, name: &[u8], word: u32) -> Result<Symbol, AllocError>
     match Name::new(alloc, name) {
         Ok(name) => Ok(Symbol { name, at }),
         Err(NameError::Memory) => Err(AllocError),
-        Err(NameError::Bad) => unreachable!(),
+        Err(NameError::Bad) => unreachable!(), // it is a name
     }
 }
 

@@ -21,7 +21,7 @@ pub(crate) fn emit(program: &mut Builder, instruction: Instr) -> Result<(), Allo
     match program.emit(instruction) {
         Ok(()) => Ok(()),
         Err(AsmError::Memory) => Err(AllocError),
-        Err(_) => unreachable!(),
+        Err(_) => unreachable!(), // the instruction has a word
     }
 }
 
@@ -48,7 +48,7 @@ pub(crate) fn label(program: &mut Builder) -> Result<Label, AllocError>
     match program.label() {
         Ok(label) => Ok(label),
         Err(AsmError::Memory) => Err(AllocError),
-        Err(_) => unreachable!(),
+        Err(_) => unreachable!(), // a label is refused only when out of memory
     }
 }
 
@@ -62,7 +62,7 @@ pub(crate) fn jump(program: &mut Builder, instruction: Instr, to: Label) -> Resu
     match program.jump(instruction, to) {
         Ok(()) => Ok(()),
         Err(AsmError::Memory) => Err(AllocError),
-        Err(_) => unreachable!(),
+        Err(_) => unreachable!(), // the instruction is a jump
     }
 }
 
@@ -74,7 +74,7 @@ pub(crate) fn bind(program: &mut Builder, label: Label)
 {
     match program.bind(label) {
         Ok(()) => (),
-        Err(_) => unreachable!(),
+        Err(_) => unreachable!(), // the label is not bound
     }
 }
 
@@ -86,8 +86,9 @@ pub(crate) fn finish(program: Builder) -> Result<Code, AllocError>
     match program.finish() {
         Ok(code) => Ok(code),
         Err(AsmError::Memory) => Err(AllocError),
-        Err(AsmError::Unbound { label: _ }) => unreachable!(),
-        Err(AsmError::Reach { at: _ }) => unreachable!(),
+        Err(AsmError::Unbound { label: _ }) => unreachable!(), // each is bound
+        Err(AsmError::Reach { at: _ }) => unreachable!(), // each is in reach
+        // other calls are refused so
         Err(AsmError::Twice { label: _ } | AsmError::Unencodable { at: _ }) => unreachable!(),
     }
 }
