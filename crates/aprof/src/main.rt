@@ -12,7 +12,7 @@ use std::{env, io};
 #[derive(Clone, Copy)]
 enum NoWords {
     Memory,
-    // They are no text.
+    // They are not UTF-8.
     NotText,
 }
 

@@ -3,5 +3,6 @@ pub mod Ending
 pub mod Jobs
 pub mod LastTexts
 pub mod Loading
+pub mod Names
 pub mod Preparing
 pub mod Totals

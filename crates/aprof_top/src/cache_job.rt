@@ -4,10 +4,8 @@ ghost use Rattle.command_line.specs.Options.Analysis.{Cache};
 ghost use Rattle.command_line.specs.Read.{AreInRange, guest_in};
 ghost use Rattle.cache_lines.specs.Shapes.{Dimensions};
 ghost use Rattle.elf_image.specs.Image.{Executable};
-ghost use Rattle.guest_run.specs.ObservedRun.{ObservedRun};
-ghost use Rattle.host_io.specs.Sink.{SinkState};
 ghost use Rattle.aprof_top.specs.CacheMisses.{misses_of, named_misses};
-ghost use Rattle.aprof_top.specs.Private.Jobs.{GuestIsRun, IsMissed, JobRuns, RunIsStored, desk, ending_by};
+ghost use Rattle.aprof_top.specs.Private.Jobs.{GuestIsRun, IsMissed, IsStored, JobRuns, ending_by};
 ghost use Rattle.aprof_top.specs.Outcome.{analysed, job_of};
 ghost use Rattle.aprof_top.specs.Outside.{outside};
 ghost use Rattle.trace_model.specs.declared.event_kinds.Event.{Event};
@@ -111,10 +109,8 @@ fn deliver_misses<F: Files>(
     report: &CacheReport,
     files: &mut F,
 ) -> Result<Verdict, Ending>
-    ensures { (shape : Dimensions) (image : Executable) (seen : ObservedRun)
-        → report.now ≡ misses_of shape image seen.finish seen.past
-        → (err : SinkState) → RunIsStored (analysed path.now (Cache shape) image seen)
-        (desk (F.state files.old) err) (desk (F.state files.new) err) result }
+    ensures { (shape : Dimensions) (image : Executable) → IsStored (IsMissed shape image)
+        (analysed path.now (Cache shape) image) report.now (F.state files.old) (F.state files.new) result }
 {
     let bytes = write_cache_report(alloc, report)?;
     store_result(path, bytes.as_slice(), report.finish, files)

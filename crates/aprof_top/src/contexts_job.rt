@@ -3,12 +3,11 @@ ghost use Rattle.std.specs.Prelude.{◌≡◌, ℕ, List, true, IfOk};
 ghost use Rattle.command_line.specs.Options.Analysis.{Contexts as ContextsAsked};
 ghost use Rattle.command_line.specs.Read.{AreInRange, guest_in};
 ghost use Rattle.guest_run.specs.ObservedRun.{ObservedRun};
-ghost use Rattle.host_io.specs.Sink.{SinkState};
 ghost use Rattle.run_profile.specs.Contexts.{AreContextTotalsOf};
 ghost use Rattle.stamps.specs.declared.width.StampBits.{StampBits};
 ghost use Rattle.trace_model.specs.declared.event_kinds.Event.{Event};
 ghost use Rattle.aprof_top.specs.ContextReports.{can_be_numbered, contexts_report};
-ghost use Rattle.aprof_top.specs.Private.Jobs.{GuestIsRun, HasContexts, HaveContexts, JobRuns, RunIsStored, desk, ending_by};
+ghost use Rattle.aprof_top.specs.Private.Jobs.{GuestIsRun, HasContexts, HaveContexts, IsStored, JobRuns, ending_by};
 ghost use Rattle.aprof_top.specs.Outcome.{analysed, job_of};
 ghost use Rattle.aprof_top.specs.Outside.{outside};
 ghost use Rattle.stamps.specs.Widths.{greatest};
@@ -95,10 +94,8 @@ fn deliver_contexts<F: Files>(
     files: &mut F,
 ) -> Result<Verdict, Ending>
     requires { (most : ℕ) × ((past : List Event) × HaveContexts most run.contexts past) }
-    ensures { (bits : StampBits) (most : ℕ) (seen : ObservedRun) → run.finish ≡ seen.finish
-        → HaveContexts most run.contexts seen.past
-        → (err : SinkState) → RunIsStored (analysed path.now (ContextsAsked bits) image.now seen)
-        (desk (F.state files.old) err) (desk (F.state files.new) err) result }
+    ensures { (bits : StampBits) (most : ℕ) → IsStored (HasContexts most)
+        (analysed path.now (ContextsAsked bits) image.now) run (F.state files.old) (F.state files.new) result }
 {
     let ContextsRun { contexts, finish } = run;
     let Some(contexts) = contexts else {

@@ -1,8 +1,7 @@
 //! Handing out what a command leaves: bytes to a sink, and files.
 ghost use Rattle.std.specs.Prelude.{◌≡◌, ◌<◌, length, map, OnErr, Some};
-ghost use Rattle.guest_run.specs.ObservedRun.{ObservedRun};
-ghost use Rattle.host_io.specs.Sink.{PutEnds, SinkState};
-ghost use Rattle.aprof_top.specs.Private.Jobs.{RunIsStored, StatsEnd, StoresEnd, desk, store_of};
+ghost use Rattle.host_io.specs.Sink.{PutEnds};
+ghost use Rattle.aprof_top.specs.Private.Jobs.{EndsAs, IsStored, StatsEnd, StoresEnd, store_of};
 ghost use Rattle.aprof_top.specs.Outcome.{one_file, run_outcome, stats_of};
 
 use crate::ending::{Ending, Verdict};
@@ -68,9 +67,8 @@ pub(crate) fn store_result<F: Files>(
     finish: Finish,
     files: &mut F,
 ) -> Result<Verdict, Ending>
-    ensures { (run : ObservedRun) → finish ≡ run.finish → (err : SinkState)
-        → RunIsStored (run_outcome run (Some (one_file path.now bytes.now)))
-        (desk (F.state files.old) err) (desk (F.state files.new) err) result }
+    ensures { IsStored EndsAs (λ run. run_outcome run (Some (one_file path.now bytes.now))) finish
+        (F.state files.old) (F.state files.new) result }
 {
     files.store(path, bytes)?;
     Ok(Verdict::Ran(finish))

@@ -1,8 +1,7 @@
 //! The commands that run a guest: its output, and what each makes of its run.
-ghost use Rattle.command_line.specs.Read.{AreInRange, analysis_in, guest_in};
-ghost use Rattle.aprof_top.specs.Private.Jobs.{FilesRun, JobRuns, ending_by};
+ghost use Rattle.command_line.specs.Read.{AreInRange, guest_in};
+ghost use Rattle.aprof_top.specs.Private.Jobs.{FilesRun, JobRuns, ending_by, job_in};
 ghost use Rattle.aprof_top.specs.Private.Loading.{loaded_in};
-ghost use Rattle.aprof_top.specs.Outcome.{job_of};
 ghost use Rattle.aprof_top.specs.Outside.{outside};
 
 use crate::cache_job::cache_job;
@@ -26,8 +25,7 @@ fn run_prepared<F: Files, O: Sink, E: Sink>(
     err: &mut E,
 ) -> Result<Verdict, Ending>
     requires { AreInRange (guest_in command.now.guest) }
-    ensures { JobRuns (job_of (guest_in command.now.guest) command.now.output.now
-        (analysis_in command.now.analysis)) prepared
+    ensures { JobRuns (job_in command.now) prepared
         (outside (F.state files.old) (O.state out.old) (E.state err.old))
         (outside (F.state files.new) (O.state out.new) (E.state err.new)) (ending_by result) }
 {
@@ -53,8 +51,7 @@ pub(crate) fn guest_command<F: Files, O: Sink, E: Sink>(
     err: &mut E,
 ) -> Result<Verdict, Ending>
     requires { AreInRange (guest_in command.now.guest) }
-    ensures { FilesRun (job_of (guest_in command.now.guest) command.now.output.now
-        (analysis_in command.now.analysis)) (loaded_in loaded)
+    ensures { FilesRun (job_in command.now) (loaded_in loaded)
         (outside (F.state files.old) (O.state out.old) (E.state err.old))
         (outside (F.state files.new) (O.state out.new) (E.state err.new)) (ending_by result) }
 {

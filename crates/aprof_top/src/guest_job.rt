@@ -1,13 +1,9 @@
 //! The run of a guest, as every command that has one makes it.
 ghost use Rattle.std.specs.Prelude.{◌≡◌, [], true};
-ghost use Rattle.command_line.specs.Options.{arguments};
 ghost use Rattle.command_line.specs.Read.{AreInRange, guest_in};
-ghost use Rattle.guest_machine.specs.Setup.{setup_refusal};
-ghost use Rattle.guest_machine.specs.Start.{start};
 ghost use Rattle.guest_run.specs.Output.{sinks};
 ghost use Rattle.guest_run.specs.ObservedRun.{first_past};
-ghost use Rattle.aprof_top.specs.Private.Jobs.{ImageRuns};
-ghost use Rattle.aprof_top.specs.Run.{observed_from};
+ghost use Rattle.aprof_top.specs.Private.Jobs.{GuestRuns};
 
 use crate::ending::Ending;
 use command_line::GuestOptions;
@@ -41,9 +37,7 @@ pub(crate) fn run_image<W: Observer, O: Sink, E: Sink>(
     requires range { AreInRange (guest_in options.now) }
     requires empty { W.stands observer.old [] }
     requires first { W.fits observer.old (first_past image.now.entry) ≡ true }
-    ensures { ImageRuns W.stands (setup_refusal image.now (arguments (guest_in options.now)))
-        (observed_from (W.fits observer.old) (guest_in options.now) files.schedule image.now.entry
-        (start image.now (arguments (guest_in options.now)) files.inputs files.stdin.items))
+    ensures { GuestRuns W.stands (W.fits observer.old) (guest_in options.now) image.now files
         (sinks (O.state out.old) (E.state err.old)) observer.new (sinks (O.state out.new) (E.state err.new)) result }
 {
     let words = options.arguments(alloc)?;

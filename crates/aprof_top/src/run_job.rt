@@ -2,11 +2,9 @@
 ghost use Rattle.std.specs.Prelude.{◌≡◌, ℕ, List, map, option_map, IfOk};
 ghost use Rattle.command_line.specs.Options.Analysis.{Run};
 ghost use Rattle.command_line.specs.Read.{AreInRange, guest_in, run_in};
-ghost use Rattle.guest_run.specs.ObservedRun.{ObservedRun};
-ghost use Rattle.guest_run.specs.Run.{recording};
 ghost use Rattle.stamps.specs.Widths.{greatest};
 ghost use Rattle.run_profile.specs.Profile.{AreTotalsOf};
-ghost use Rattle.aprof_top.specs.Private.Jobs.{JobRuns, RunIsStored, desk, ending_by, store_of};
+ghost use Rattle.aprof_top.specs.Private.Jobs.{IsDelivered, IsProfiled, JobRuns, desk, ending_by, store_of};
 ghost use Rattle.aprof_top.specs.Outcome.{analysed, job_of, recording_stores, run_stores};
 ghost use Rattle.aprof_top.specs.Outside.{outside};
 ghost use Rattle.trace_model.specs.declared.event_kinds.Event.{Event};
@@ -70,9 +68,8 @@ fn deliver_run<F: Files, E: Sink>(
     files: &mut F,
     err: &mut E,
 ) -> Result<Verdict, Ending>
-    ensures { (seen : ObservedRun) → AreTotalsOf (greatest options.now.bits) run.now.totals seen.past
-        → run.now.ended.recording ≡ recording seen.moves → run.now.ended.finish ≡ seen.finish
-        → RunIsStored (analysed path.now (Run (run_in options.now)) image.now seen)
+    ensures { IsDelivered (IsProfiled (greatest options.now.bits))
+        (analysed path.now (Run (run_in options.now)) image.now) run.now
         (desk (F.state files.old) (E.state err.old)) (desk (F.state files.new) (E.state err.new)) result }
 {
     let stores = run_stores(alloc, path, options, image, run)?;

@@ -1,14 +1,11 @@
 //! The command `trace`: a guest's output, and the trace of its run.
-ghost use Rattle.std.specs.Prelude.{◌≡◌, ◌≤◌, ◌<◌, ℕ, List, length, Some, MatchOption, IfOk};
+ghost use Rattle.std.specs.Prelude.{◌≡◌, ◌≤◌, ℕ, List, Some, IfOk};
 ghost use Rattle.command_line.specs.Options.Analysis.{Trace};
 ghost use Rattle.command_line.specs.Read.{AreInRange, guest_in};
 ghost use Rattle.guest_words.specs.declared.endings.Finish.TheVariants as ends;
-ghost use Rattle.guest_run.specs.ObservedRun.{ObservedRun};
-ghost use Rattle.host_io.specs.Sink.{SinkState};
-ghost use Rattle.guest_words.specs.declared.limits.TheConstants.{TRACE_BYTES};
 ghost use Rattle.trace_file.specs.TraceText.{trace_text};
 ghost use Rattle.trace_model.specs.declared.event_kinds.Event.{Event};
-ghost use Rattle.aprof_top.specs.Private.Jobs.{AreTexts, GuestIsRun, IsTraced, JobRuns, RunIsStored, desk, ending_by};
+ghost use Rattle.aprof_top.specs.Private.Jobs.{AreTexts, GuestIsRun, IsShortText, IsStored, IsTraced, JobRuns, ending_by};
 ghost use Rattle.aprof_top.specs.Outcome.{analysed, job_of};
 ghost use Rattle.aprof_top.specs.Outside.{outside};
 ghost use Rattle.aprof_top.specs.Traces.{named_entries, names_begun};
@@ -88,8 +85,7 @@ fn whole_text(
     requires line { (line : ℕ) → finish.now ≡ ends.Schedule line → 1 ≤ line }
     requires text { (past : List Event) × AreTexts (Some text) past }
     ensures { IfOk result (λ found. (past : List Event) → AreTexts (Some text) past
-        → MatchOption found (TRACE_BYTES < length (trace_text past (names_begun image.now past) finish.now))
-        (λ bytes. (bytes.items ≡ trace_text past (names_begun image.now past) finish.now) × (length bytes.items ≤ TRACE_BYTES))) }
+        → IsShortText (trace_text past (names_begun image.now past) finish.now) found) }
 {
     let EventText { writer, entries } = text;
     let names = named_entries(alloc, image, entries)?;
@@ -110,9 +106,7 @@ fn deliver_trace<F: Files>(
 ) -> Result<Verdict, Ending>
     requires line { (line : ℕ) → run.finish ≡ ends.Schedule line → 1 ≤ line }
     requires text { (past : List Event) × AreTexts run.text past }
-    ensures { (seen : ObservedRun) → run.finish ≡ seen.finish → AreTexts run.text seen.past
-        → (err : SinkState) → RunIsStored (analysed path.now Trace image.now seen)
-        (desk (F.state files.old) err) (desk (F.state files.new) err) result }
+    ensures { IsStored IsTraced (analysed path.now Trace image.now) run (F.state files.old) (F.state files.new) result }
 {
     let TracedRun { text, finish } = run;
     let Some(text) = text else {

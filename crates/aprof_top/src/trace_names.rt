@@ -1,7 +1,6 @@
 //! The names that a stored trace gives its routines.
-ghost use Rattle.std.specs.Prelude.{◌≡◌, ◌<◌, ℕ, List, length, slice_get, None, MatchOption, AllPairs};
-ghost use Rattle.std.specs.List.{find};
-ghost use Rattle.std.specs.Prelude.{◌==◌};
+ghost use Rattle.std.specs.Prelude.{◌≡◌, ◌<◌, ℕ, List, AllPairs};
+ghost use Rattle.aprof_top.specs.Private.Names.{IsNamePlace};
 
 use crate::report::RoutineNames;
 use guest_words::{Addr, Name};
@@ -27,8 +26,7 @@ impl Model for TraceNames {
 // Where the entry is, among rising ones.
 fn search(names: &[(Addr, Name)], entry: Addr) -> Option<usize>
     requires { AllPairs (λ (x y : ℕ × List ℕ). x.0 < y.0) names.now }
-    ensures { MatchOption result (find (λ (n : ℕ × List ℕ). n.0 == entry) names.now ≡ None)
-        (λ place. (place < length names.now) × (find (λ (n : ℕ × List ℕ). n.0 == entry) names.now ≡ slice_get names.now place)) }
+    ensures { IsNamePlace names.now entry result }
 {
     names.binary_search_by_key(&entry, |named| named.0).ok()
 }

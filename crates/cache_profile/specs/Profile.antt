@@ -42,7 +42,7 @@ is_step_or_fill _ = false
 abbrev pub lives : KeptMisses → ℕ → Bool
 lives kept t = is_some (value_of kept.calls.threads t)
 
--- The event may come next, as what is kept shows: what it shows is so of all pasts for which that stands.
+-- The event may come next, by what is kept alone: what this shows holds for every past that it stands for.
 abbrev pub MayCome : KeptMisses → Event → Type 0
 MayCome kept e = IsAllowed e (is_of_one (lives kept) e) kept.progress
 

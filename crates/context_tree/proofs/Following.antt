@@ -218,7 +218,7 @@ module _ (old new : KeptBranches) (past : List Event) (e : Event) (tid count : �
   }
 
 -- ---- each kind of event
--- what the begin of a context right under another comes to
+-- what comes of beginning a context right under another
 pub record HasBegun (old new : KeptBranches) (known : List (List ℕ)) (above entry n : ℕ) : Type 0 where
   pub linked : IsLinked new.places new.links
   pub places : by_number.NumbersStandFor new.places (with_context known (numbered known above ++ entry ∷ []))

@@ -2,12 +2,20 @@
 use Rattle.std.specs.Prelude.{◌≡◌, ◌≢◌, ℕ, zero, suc, ◌-◌, ◌<◌, ◌≤◌, Bool, false, ◌&&◌, nat_eq, if◌then◌else◌, List, [], ◌∷◌, ◌++◌, length, slice_index_or}
 use Rattle.std.specs.List.{list_any}
 use Rattle.guest_words.specs.declared.limits.TheConstants.{CONTEXTS}
-use Rattle.context_tree.specs.Contexts.{same}
+use Rattle.context_tree.specs.Contexts.{same, with_context}
 
 -- the context of a number
 abbrev pub numbered : List (List ℕ) → ℕ → List ℕ
 numbered contexts zero = []
 numbered contexts (suc i) = slice_index_or contexts i []
+
+-- the child of the context of the number `above` that has this entry
+abbrev pub child_of : List (List ℕ) → ℕ → ℕ → List ℕ
+child_of contexts above entry = numbered contexts above ++ entry ∷ []
+
+-- the contexts with this child, which is added at the end unless it is among them
+abbrev pub with_child : List (List ℕ) → ℕ → ℕ → List (List ℕ)
+with_child contexts above entry = with_context contexts (child_of contexts above entry)
 
 -- the number of the context right above that of the number n
 abbrev pub above_of : List (ℕ × ℕ) → ℕ → ℕ

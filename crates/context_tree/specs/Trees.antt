@@ -33,7 +33,7 @@ pub record IsOfSome (kept : KeptTree) : Type 0 where
 abbrev pub lives : KeptTree → ℕ → Bool
 lives kept t = is_some (value_of kept.branches.threads t)
 
--- The event may come next, as what is kept shows: what it shows is so of all pasts for which that stands.
+-- The event may come next, by what is kept alone: what this shows holds for every past that it stands for.
 abbrev pub MayCome : KeptTree → Event → Type 0
 MayCome kept e = IsAllowed e (is_of_one (lives kept) e) kept.progress
 

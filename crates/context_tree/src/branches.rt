@@ -8,9 +8,9 @@ ghost use Rattle.trace_model.specs.Profile.{done, ended};
 ghost use Rattle.cost_points.specs.Contents.{contents_of};
 ghost use Rattle.context_tree.specs.declared.errors.TreeError.{TreeError};
 ghost use Rattle.guest_words.specs.declared.limits.TheConstants.{CONTEXTS};
-ghost use Rattle.context_tree.specs.Contexts.{context_begun, contexts, same, with_context};
+ghost use Rattle.context_tree.specs.Contexts.{context_begun, contexts, same};
 ghost use Rattle.context_tree.specs.Links.{IsLinked};
-ghost use Rattle.context_tree.specs.Numbers.{IsBeyond, IsNumberOf, numbered};
+ghost use Rattle.context_tree.specs.Numbers.{IsBeyond, IsNumberOf, child_of, numbered, with_child};
 ghost use Rattle.context_tree.specs.Numbers as by_number;
 ghost use Rattle.context_tree.specs.Order.{IsFollowedBy, IsInOrder};
 ghost use Rattle.context_tree.specs.Branches.{BranchesStandFor, current_of};
@@ -65,15 +65,15 @@ fn begin(
     requires long { length points.old.items ≡ length numbers.old }
     requires linked { IsLinked numbers.old links.old.items }
     ensures stands { (contexts : List (List ℕ)) → by_number.NumbersStandFor numbers.old contexts
-        → OnOk result (by_number.NumbersStandFor numbers.new (with_context contexts (numbered contexts above ++ entry ∷ []))) }
+        → OnOk result (by_number.NumbersStandFor numbers.new (with_child contexts above entry)) }
     ensures number { (contexts : List (List ℕ)) → by_number.NumbersStandFor numbers.old contexts
-        → IfOk result (λ n. IsNumberOf (with_context contexts (numbered contexts above ++ entry ∷ [])) n (numbered contexts above ++ entry ∷ [])) }
+        → IfOk result (λ n. IsNumberOf (with_child contexts above entry) n (child_of contexts above entry)) }
     ensures points { (contexts : List (List ℕ)) → by_number.NumbersStandFor numbers.old contexts
-        → OnOk result (lists points.new.items ≡ with_list (list_any (same (numbered contexts above ++ entry ∷ [])) contexts) (lists points.old.items)) }
+        → OnOk result (lists points.new.items ≡ with_list (list_any (same (child_of contexts above entry)) contexts) (lists points.old.items)) }
     ensures too_many { (contexts : List (List ℕ)) → by_number.NumbersStandFor numbers.old contexts
-        → result ≡ Err TreeError.TooMany → IsBeyond contexts (numbered contexts above ++ entry ∷ []) }
+        → result ≡ Err TreeError.TooMany → IsBeyond contexts (child_of contexts above entry) }
     ensures always_too_many { (contexts : List (List ℕ)) → by_number.NumbersStandFor numbers.old contexts
-        → IsBeyond contexts (numbered contexts above ++ entry ∷ []) → result ≡ Err TreeError.TooMany }
+        → IsBeyond contexts (child_of contexts above entry) → result ≡ Err TreeError.TooMany }
     ensures refused_numbers { OnErr result (numbers.new ≡ numbers.old) }
     ensures linked { OnOk result (IsLinked numbers.new links.new.items) }
     ensures few { OnOk result (length numbers.new ≤ CONTEXTS) }

@@ -1,8 +1,7 @@
 //! Contexts by number.
 ghost use Rattle.std.specs.Prelude.{◌≡◌, ◌<◌, ◌≤◌, ◌-◌, ◌++◌, ◌∷◌, [], ℕ, List, length, slice_index_or, true, Err, IfOk, OnErr, OnOk};
-ghost use Rattle.context_tree.specs.Contexts.{with_context};
 ghost use Rattle.context_tree.specs.declared.errors.TreeError.{TreeError};
-ghost use Rattle.context_tree.specs.Numbers.{IsBeyond, IsNumberOf, NumbersStandFor, numbered, with_place};
+ghost use Rattle.context_tree.specs.Numbers.{IsBeyond, IsNumberOf, NumbersStandFor, child_of, numbered, with_child, with_place};
 
 use crate::TreeError;
 use guest_words::Addr;
@@ -55,7 +54,7 @@ impl ContextNumbers {
         ensures here { result ≡ slice_index_or self.now (n - 1) (0, 0) }
         ensures above { (contexts : List (List ℕ)) → NumbersStandFor self.now contexts → result.0 < n }
         ensures context { (contexts : List (List ℕ)) → NumbersStandFor self.now contexts
-            → numbered contexts n ≡ numbered contexts result.0 ++ result.1 ∷ [] }
+            → numbered contexts n ≡ child_of contexts result.0 result.1 }
     {
         *self.places.get_index(n as usize - 1).unwrap()
     }
@@ -64,9 +63,9 @@ impl ContextNumbers {
     pub fn is_beyond(&self, above: u32, entry: Addr) -> bool
         requires { above ≤ length self.now }
         ensures yes { (contexts : List (List ℕ)) → NumbersStandFor self.now contexts
-            → result ≡ true → IsBeyond contexts (numbered contexts above ++ entry ∷ []) }
+            → result ≡ true → IsBeyond contexts (child_of contexts above entry) }
         ensures no { (contexts : List (List ℕ)) → NumbersStandFor self.now contexts
-            → IsBeyond contexts (numbered contexts above ++ entry ∷ []) → result ≡ true }
+            → IsBeyond contexts (child_of contexts above entry) → result ≡ true }
     {
         self.places.len() >= CONTEXTS && !self.places.contains(&(above, entry))
     }
@@ -77,13 +76,13 @@ impl ContextNumbers {
         requires { above ≤ length self.old }
         ensures places { OnOk result (self.new ≡ with_place self.old (above, entry)) }
         ensures stands { (contexts : List (List ℕ)) → NumbersStandFor self.old contexts
-            → OnOk result (NumbersStandFor self.new (with_context contexts (numbered contexts above ++ entry ∷ []))) }
+            → OnOk result (NumbersStandFor self.new (with_child contexts above entry)) }
         ensures number { (contexts : List (List ℕ)) → NumbersStandFor self.old contexts
-            → IfOk result (λ n. IsNumberOf (with_context contexts (numbered contexts above ++ entry ∷ [])) n (numbered contexts above ++ entry ∷ [])) }
+            → IfOk result (λ n. IsNumberOf (with_child contexts above entry) n (child_of contexts above entry)) }
         ensures too_many { (contexts : List (List ℕ)) → NumbersStandFor self.old contexts
-            → result ≡ Err TreeError.TooMany → IsBeyond contexts (numbered contexts above ++ entry ∷ []) }
+            → result ≡ Err TreeError.TooMany → IsBeyond contexts (child_of contexts above entry) }
         ensures always_too_many { (contexts : List (List ℕ)) → NumbersStandFor self.old contexts
-            → IsBeyond contexts (numbered contexts above ++ entry ∷ []) → result ≡ Err TreeError.TooMany }
+            → IsBeyond contexts (child_of contexts above entry) → result ≡ Err TreeError.TooMany }
         ensures refused { OnErr result (self.new ≡ self.old) }
     {
         let place = (above, entry);

@@ -33,9 +33,13 @@ merged p q = record {
   split = split_both p.split q.split;
 }
 
--- a routine with a point more: the one of its size takes it in, and where there is none it is a new one
+-- points by rising size, with a point more: the one of its size takes it in, and where there is none it is a new one
+abbrev pub put_point : Point → List Point → List Point
+put_point p points = put (λ q. q.size) p.size (λ q. merged q p) p points
+
+-- a routine with a point more
 abbrev pub point_added : Point → Routine → Routine
-point_added p r = record { entry = r.entry; points = put (λ q. q.size) p.size (λ q. merged q p) p r.points }
+point_added p r = record { entry = r.entry; points = put_point p r.points }
 
 -- the routines with a point more of the routine at the entry
 abbrev pub with_point : ℕ → Point → List Routine → List Routine

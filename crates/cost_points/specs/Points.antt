@@ -38,6 +38,10 @@ point_of size members =
       split = Some (split_of members);
     }
 
+-- the point of one activation
+abbrev pub point_of_one : Done → Point
+point_of_one d = point_of d.size (d ∷ [])
+
 -- A routine: its entry, and its points.
 pub record Routine : Type 0 where
   pub entry : ℕ

@@ -1,6 +1,6 @@
 //! Items by rising key, in blocks: one more moves the rest of a block, and no other item.
 ghost use Rattle.std.specs.Prelude.{◌≡◌, ◌<◌, ◌≤◌, ◌++◌, [], ℕ, false, get_or, length, map, true, IfOk, MatchResult, OnErr, OnOk};
-ghost use Rattle.cost_points.specs.Joined.{IsFilled, joined};
+ghost use Rattle.cost_points.specs.Joined.{IsFilled, items_in};
 ghost use Rattle.cost_points.specs.Places.{IsBlockOf, IsGapOf, IsPlaceOf, before};
 ghost use Rattle.cost_points.specs.Private.Blocks.{IsItemAt, cut, with_item};
 ghost use Rattle.cost_points.specs.Keys.{IsRising};
@@ -40,7 +40,7 @@ impl Place {
 // The block that the key belongs into.
 fn block_of<T: Keyed>(blocks: &[Vec<T>], key: u64) -> usize
     requires filled { IsFilled (map (λ b. b.items) blocks.now) }
-    requires rising { IsRising (map T.key_of (joined (map (λ b. b.items) blocks.now))) }
+    requires rising { IsRising (map T.key_of (items_in blocks.now)) }
     ensures { IsBlockOf T.key_of (map (λ b. b.items) blocks.now) key result }
 {
     let mut low = 0;
@@ -68,7 +68,7 @@ pub(crate) fn search_block<T: Keyed>(block: &[T], key: u64) -> Result<usize, usi
 /// Where the key stands, or where it would go.
 pub(crate) fn search<T: Keyed>(blocks: &[Vec<T>], key: u64) -> Result<Place, Place>
     requires filled { IsFilled (map (λ b. b.items) blocks.now) }
-    requires rising { IsRising (map T.key_of (joined (map (λ b. b.items) blocks.now))) }
+    requires rising { IsRising (map T.key_of (items_in blocks.now)) }
     ensures { MatchResult result
         (λ p. IsPlaceOf T.key_of (map (λ b. b.items) blocks.now) key p.block p.at)
         (λ p. IsGapOf T.key_of (map (λ b. b.items) blocks.now) key p.block p.at) }
@@ -84,7 +84,7 @@ pub(crate) fn search<T: Keyed>(blocks: &[Vec<T>], key: u64) -> Result<Place, Pla
 #[inline(always)]
 pub(crate) fn find<T: Keyed>(blocks: &[Vec<T>], last: Place, key: u64) -> Result<Place, Place>
     requires filled { IsFilled (map (λ b. b.items) blocks.now) }
-    requires rising { IsRising (map T.key_of (joined (map (λ b. b.items) blocks.now))) }
+    requires rising { IsRising (map T.key_of (items_in blocks.now)) }
     ensures { MatchResult result
         (λ p. IsPlaceOf T.key_of (map (λ b. b.items) blocks.now) key p.block p.at)
         (λ p. IsGapOf T.key_of (map (λ b. b.items) blocks.now) key p.block p.at) }
@@ -104,10 +104,9 @@ pub(crate) fn find<T: Keyed>(blocks: &[Vec<T>], last: Place, key: u64) -> Result
 #[inline(never)]
 fn reach_apart<T: Keyed>(blocks: &[Vec<T>], last: &mut Place, key: u64) -> bool
     requires filled { IsFilled (map (λ b. b.items) blocks.now) }
-    requires rising { IsRising (map T.key_of (joined (map (λ b. b.items) blocks.now))) }
+    requires rising { IsRising (map T.key_of (items_in blocks.now)) }
     ensures reached { result ≡ true → IsPlaceOf T.key_of (map (λ b. b.items) blocks.now) key last.new.block last.new.at }
-    ensures nowhere { result ≡ false → (at : ℕ)
-        → IsAt (map T.key_of (joined (map (λ b. b.items) blocks.now))) key at → ⊥ }
+    ensures nowhere { result ≡ false → (at : ℕ) → IsAt (map T.key_of (items_in blocks.now)) key at → ⊥ }
 {
     match search(blocks, key) {
         Ok(place) => {
@@ -122,10 +121,9 @@ fn reach_apart<T: Keyed>(blocks: &[Vec<T>], last: &mut Place, key: u64) -> bool
 #[inline(always)]
 pub(crate) fn reach<T: Keyed>(blocks: &[Vec<T>], last: &mut Place, key: u64) -> bool
     requires filled { IsFilled (map (λ b. b.items) blocks.now) }
-    requires rising { IsRising (map T.key_of (joined (map (λ b. b.items) blocks.now))) }
+    requires rising { IsRising (map T.key_of (items_in blocks.now)) }
     ensures reached { result ≡ true → IsPlaceOf T.key_of (map (λ b. b.items) blocks.now) key last.new.block last.new.at }
-    ensures nowhere { result ≡ false → (at : ℕ)
-        → IsAt (map T.key_of (joined (map (λ b. b.items) blocks.now))) key at → ⊥ }
+    ensures nowhere { result ≡ false → (at : ℕ) → IsAt (map T.key_of (items_in blocks.now)) key at → ⊥ }
 {
     if last.block < blocks.len() {
         let block = &blocks[last.block];
@@ -161,7 +159,7 @@ fn shorten<T: Drop>(blocks: &mut Vec<Vec<T>>, place: Place) -> Result<Place, All
     ensures at { IfOk result (λ p. p.at ≤ length (get_or (map (λ v. v.items) blocks.new.items) p.block [])) }
     ensures same { (x : T) → IfOk result (λ p. with_item (map (λ v. v.items) blocks.new.items) p.block p.at x
         ≡ with_item (map (λ v. v.items) blocks.old.items) place.block place.at x) }
-    ensures items { joined (map (λ v. v.items) blocks.new.items) ≡ joined (map (λ v. v.items) blocks.old.items) }
+    ensures items { items_in blocks.new.items ≡ items_in blocks.old.items }
     ensures filled { IsFilled (map (λ v. v.items) blocks.new.items) }
     ensures before { (b : ℕ) → b ≤ place.block → before b (map (λ v. v.items) blocks.new.items)
         ≡ before b (map (λ v. v.items) blocks.old.items) }
@@ -190,10 +188,9 @@ pub(crate) fn insert<T: Drop>(
     requires inside { place.block < length blocks.old.items }
     requires at { place.at ≤ length (get_or (map (λ v. v.items) blocks.old.items) place.block []) }
     requires filled { IsFilled (map (λ v. v.items) blocks.old.items) }
-    ensures ok { OnOk result (joined (map (λ v. v.items) blocks.new.items)
+    ensures ok { OnOk result (items_in blocks.new.items
         ≡ with_item (map (λ v. v.items) blocks.old.items) place.block place.at item) }
-    ensures err { OnErr result (joined (map (λ v. v.items) blocks.new.items)
-        ≡ joined (map (λ v. v.items) blocks.old.items)) }
+    ensures err { OnErr result (items_in blocks.new.items ≡ items_in blocks.old.items) }
     ensures placed { IfOk result (λ p. IsItemAt (map (λ v. v.items) blocks.new.items) p.block p.at item) }
     ensures filled { IsFilled (map (λ v. v.items) blocks.new.items) }
     ensures before { (b : ℕ) → b ≤ place.block → before b (map (λ v. v.items) blocks.new.items)
@@ -218,7 +215,7 @@ fn extend(all: &mut Vec<Point>, block: &[Tally]) -> Result<(), AllocError>
 
 /// All points, by rising size.
 pub(crate) fn items(alloc: Global, blocks: &[Vec<Tally>]) -> Result<Vec<Point>, AllocError>
-    ensures { IfOk result (λ all. all.items ≡ joined (map (λ b. b.items) blocks.now)) }
+    ensures { IfOk result (λ all. all.items ≡ items_in blocks.now) }
 {
     let mut all = Vec::new(alloc);
     for i in 0..blocks.len() {

@@ -1,7 +1,7 @@
 //! Items in blocks by their index among all. A list says at which index each block begins, of the first blocks up to one: a new
 //! item shortens it to the block that takes the item, and `extend` makes it the list of all blocks.
 ghost use Rattle.std.specs.Prelude.{◌≡◌, ◌+◌, ◌<◌, ◌≤◌, length, map, slice_index, OnOk};
-ghost use Rattle.cost_points.specs.Joined.{joined};
+ghost use Rattle.cost_points.specs.Joined.{items_in};
 ghost use Rattle.cost_points.specs.Indexes.{AreStarts};
 ghost use Rattle.cost_points.specs.Private.Blocks.{IsIndexOf};
 
@@ -32,7 +32,7 @@ fn known_block(starts: &[usize], i: usize) -> usize
 /// The place of an index.
 pub(crate) fn place_of<T>(blocks: &[Vec<T>], starts: &[usize], i: usize) -> Place
     requires starts { AreStarts (map (λ b. b.items) blocks.now) starts.now }
-    requires inside { i < length (joined (map (λ b. b.items) blocks.now)) }
+    requires inside { i < length (items_in blocks.now) }
     ensures { IsIndexOf (map (λ b. b.items) blocks.now) i result.block result.at }
 {
     let mut block = known_block(starts, i);
@@ -51,7 +51,7 @@ pub(crate) fn extend<T>(
     starts: &mut Vec<usize>,
 ) -> Result<(), AllocError>
     requires starts { AreStarts (map (λ b. b.items) blocks.now) starts.old.items }
-    requires count { count ≡ length (joined (map (λ b. b.items) blocks.now)) }
+    requires count { count ≡ length (items_in blocks.now) }
     ensures starts { AreStarts (map (λ b. b.items) blocks.now) starts.new.items }
     ensures all { OnOk result (length starts.new.items ≡ length blocks.now) }
 {

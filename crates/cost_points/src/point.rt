@@ -1,6 +1,6 @@
 //! The point of a size.
 ghost use Rattle.std.specs.Prelude.{◌≡◌, [], ◌∷◌};
-ghost use Rattle.cost_points.specs.Points.{point_of, split_of};
+ghost use Rattle.cost_points.specs.Points.{point_of_one, split_of};
 ghost use Rattle.cost_points.specs.Merging.{merged, split_both, split_sum};
 ghost use Rattle.cost_points.specs.Search.{HasRoom, HasSplitRoom};
 
@@ -81,7 +81,7 @@ impl Split {
 impl Point {
     /// The point of one activation.
     pub fn of_one(ended: Done) -> Point
-        ensures { result ≡ point_of ended.size (ended ∷ []) }
+        ensures { result ≡ point_of_one ended }
     {
         let Done { size, cost, .. } = ended;
         Point {

@@ -5,7 +5,7 @@ ghost use Rattle.trace_model.specs.Profile.{HasParts};
 ghost use Rattle.cost_points.specs.Keys.{IsRising};
 ghost use Rattle.cost_points.specs.Merging.{point_added};
 ghost use Rattle.cost_points.specs.Search.{HasRoom, IsAt};
-ghost use Rattle.cost_points.specs.Points.{point_of};
+ghost use Rattle.cost_points.specs.Points.{point_of_one};
 
 use crate::{Point, SortedPoints};
 use guest_words::Addr;
@@ -55,8 +55,7 @@ impl RoutinePoints {
     pub fn add_one(&mut self, ended: &Done) -> Result<(), AllocError>
         requires rising { IsRising (map (λ p. p.size) self.old.points) }
         requires room { All HasRoom self.old.points }
-        ensures ok { OnOk result (self.new ≡ point_added
-            (point_of ended.now.size (ended.now ∷ [])) self.old) }
+        ensures ok { OnOk result (self.new ≡ point_added (point_of_one ended.now) self.old) }
         ensures err { OnErr result (self.new ≡ self.old) }
         ensures no_allocation { (place : ℕ) → IsAt (map (λ p. p.size) self.old.points) ended.now.size place
             → IsOk result }
@@ -71,8 +70,7 @@ impl RoutinePoints {
         requires parts { HasParts ended.now }
         requires rising { IsRising (map (λ p. p.size) self.old.points) }
         requires room { All HasRoom self.old.points }
-        ensures added { result ≡ true → self.new ≡ point_added
-            (point_of ended.now.size (ended.now ∷ [])) self.old }
+        ensures added { result ≡ true → self.new ≡ point_added (point_of_one ended.now) self.old }
         ensures same { result ≡ false → self.new ≡ self.old }
         ensures known { (place : ℕ) → IsAt (map (λ p. p.size) self.old.points) ended.now.size place
             → result ≡ true }

@@ -6,7 +6,7 @@ ghost use Rattle.cost_points.specs.Joined.{joined};
 ghost use Rattle.cost_points.specs.Keys.{IsRising};
 ghost use Rattle.cost_points.specs.Merging.{with_point};
 ghost use Rattle.cost_points.specs.Places.{IsGapOf};
-ghost use Rattle.cost_points.specs.Points.{Routine, point_of};
+ghost use Rattle.cost_points.specs.Points.{Routine, point_of_one};
 ghost use Rattle.cost_points.specs.Search.{HasRoom, IsAt};
 ghost use Rattle.cost_points.specs.Valid.{IsProfile};
 
@@ -36,7 +36,7 @@ pub(crate) fn add_one(
     requires profile { IsProfile (joined routines.old) }
     requires room { All (λ r. All HasRoom r.points) (joined routines.old) }
     ensures ok { OnOk result (joined routines.new
-        ≡ with_point ended.now.entry (point_of ended.now.size (ended.now ∷ []))
+        ≡ with_point ended.now.entry (point_of_one ended.now)
         (joined routines.old)) }
     ensures err { OnErr result (joined routines.new ≡ joined routines.old) }
     ensures no_allocation { (at place : ℕ) (r : Routine) → slice_get (joined routines.old) at ≡ Some r
@@ -59,7 +59,7 @@ pub(crate) fn add_known(routines: &mut ByKey<RoutinePoints>, ended: &Done) -> bo
     requires profile { IsProfile (joined routines.old) }
     requires room { All (λ r. All HasRoom r.points) (joined routines.old) }
     ensures added { result ≡ true → joined routines.new
-        ≡ with_point ended.now.entry (point_of ended.now.size (ended.now ∷ []))
+        ≡ with_point ended.now.entry (point_of_one ended.now)
         (joined routines.old) }
     ensures same { result ≡ false → joined routines.new ≡ joined routines.old }
     ensures known { (at place : ℕ) (r : Routine) → slice_get (joined routines.old) at ≡ Some r

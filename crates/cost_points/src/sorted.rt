@@ -2,11 +2,11 @@
 ghost use Rattle.std.specs.Prelude.{◌≡◌, ◌<◌, [], ◌∷◌, ℕ, false, map, true, vec_len, IfOk, IsOk, OnOk, OnErr};
 ghost use Rattle.std.specs.List.{All};
 ghost use Rattle.std.specs.Vec.{vec_capacity};
-ghost use Rattle.cost_points.specs.Joined.{IsFilled, joined};
+ghost use Rattle.cost_points.specs.Joined.{IsFilled, items_in};
 ghost use Rattle.cost_points.specs.Places.{IsGapOf};
-ghost use Rattle.cost_points.specs.Keys.{IsRising, put};
-ghost use Rattle.cost_points.specs.Merging.{merged};
-ghost use Rattle.cost_points.specs.Points.{point_of};
+ghost use Rattle.cost_points.specs.Keys.{IsRising};
+ghost use Rattle.cost_points.specs.Merging.{put_point};
+ghost use Rattle.cost_points.specs.Points.{point_of_one};
 ghost use Rattle.cost_points.specs.Search.{HasRoom, IsAt};
 ghost use Rattle.cost_points.specs.Private.Tallies.{is_own};
 
@@ -29,11 +29,11 @@ pub struct SortedPoints {
 impl Model for SortedPoints {
     ghost use Rattle.std.specs.Prelude.{List, map};
     ghost use Rattle.cost_points.specs.declared.point.Point.{Point};
-    ghost use Rattle.cost_points.specs.Joined.{IsFilled, joined};
+    ghost use Rattle.cost_points.specs.Joined.{IsFilled, items_in};
 
     ghost Value = { List Point };
 
-    ghost view = { λ s. joined (map (λ b. b.items) s.points.items) };
+    ghost view = { λ s. items_in s.points.items };
 
     ghost invariant = { λ s. IsFilled (map (λ b. b.items) s.points.items) };
 }
@@ -63,8 +63,7 @@ pub fn insert_point(points: &mut Vec<Point>, point: Point)
     requires rising { IsRising (map (λ p. p.size) points.old.items) }
     requires room { All HasRoom points.old.items }
     requires fits { HasRoom point }
-    ensures { points.new.items ≡ put (λ q. q.size) point.size
-        (λ q. merged q point) point points.old.items }
+    ensures { points.new.items ≡ put_point point points.old.items }
 {
     match blocks::search_block(points, point.size) {
         Ok(at) => points[at] = points[at].merged(point),
@@ -77,16 +76,13 @@ pub fn insert_point(points: &mut Vec<Point>, point: Point)
 // One more point among blocks of points, the last of which was changed at a place.
 fn add_to(points: &mut Vec<Vec<Tally>>, last: &mut Place, point: Point) -> Result<(), AllocError>
     requires filled { IsFilled (map (λ b. b.items) points.old.items) }
-    requires rising { IsRising (map (λ p. p.size) (joined (map (λ b. b.items) points.old.items))) }
-    requires room { All HasRoom (joined (map (λ b. b.items) points.old.items)) }
+    requires rising { IsRising (map (λ p. p.size) (items_in points.old.items)) }
+    requires room { All HasRoom (items_in points.old.items) }
     requires fits { HasRoom point }
-    ensures ok { OnOk result (joined (map (λ b. b.items) points.new.items)
-        ≡ put (λ q. q.size) point.size (λ q. merged q point) point
-        (joined (map (λ b. b.items) points.old.items))) }
-    ensures err { OnErr result (joined (map (λ b. b.items) points.new.items)
-        ≡ joined (map (λ b. b.items) points.old.items)) }
+    ensures ok { OnOk result (items_in points.new.items ≡ put_point point (items_in points.old.items)) }
+    ensures err { OnErr result (items_in points.new.items ≡ items_in points.old.items) }
     ensures filled { IsFilled (map (λ b. b.items) points.new.items) }
-    ensures no_allocation { (place : ℕ) → IsAt (map (λ p. p.size) (joined (map (λ b. b.items) points.old.items)))
+    ensures no_allocation { (place : ℕ) → IsAt (map (λ p. p.size) (items_in points.old.items))
         point.size place → IsOk result }
 {
     match blocks::find(points, *last, point.size) {
@@ -108,15 +104,13 @@ fn add_to(points: &mut Vec<Vec<Tally>>, last: &mut Place, point: Point) -> Resul
 #[inline(always)]
 fn add_one(points: &mut Vec<Vec<Tally>>, last: &mut Place, ended: &Done) -> Result<(), AllocError>
     requires filled { IsFilled (map (λ b. b.items) points.old.items) }
-    requires rising { IsRising (map (λ p. p.size) (joined (map (λ b. b.items) points.old.items))) }
-    requires room { All HasRoom (joined (map (λ b. b.items) points.old.items)) }
-    ensures ok { OnOk result (joined (map (λ b. b.items) points.new.items)
-        ≡ put (λ q. q.size) ended.now.size (λ q. merged q (point_of ended.now.size (ended.now ∷ [])))
-        (point_of ended.now.size (ended.now ∷ [])) (joined (map (λ b. b.items) points.old.items))) }
-    ensures err { OnErr result (joined (map (λ b. b.items) points.new.items)
-        ≡ joined (map (λ b. b.items) points.old.items)) }
+    requires rising { IsRising (map (λ p. p.size) (items_in points.old.items)) }
+    requires room { All HasRoom (items_in points.old.items) }
+    ensures ok { OnOk result (items_in points.new.items
+        ≡ put_point (point_of_one ended.now) (items_in points.old.items)) }
+    ensures err { OnErr result (items_in points.new.items ≡ items_in points.old.items) }
     ensures filled { IsFilled (map (λ b. b.items) points.new.items) }
-    ensures no_allocation { (place : ℕ) → IsAt (map (λ p. p.size) (joined (map (λ b. b.items) points.old.items)))
+    ensures no_allocation { (place : ℕ) → IsAt (map (λ p. p.size) (items_in points.old.items))
         ended.now.size place → IsOk result }
 {
     match blocks::find(points, *last, ended.size) {
@@ -137,15 +131,13 @@ fn add_one(points: &mut Vec<Vec<Tally>>, last: &mut Place, ended: &Done) -> Resu
 fn add_known(points: &mut Vec<Vec<Tally>>, last: &mut Place, ended: &Done, own: bool) -> bool
     requires own { own ≡ true → is_own ended.now ≡ true }
     requires filled { IsFilled (map (λ b. b.items) points.old.items) }
-    requires rising { IsRising (map (λ p. p.size) (joined (map (λ b. b.items) points.old.items))) }
-    requires room { All HasRoom (joined (map (λ b. b.items) points.old.items)) }
-    ensures added { result ≡ true → joined (map (λ b. b.items) points.new.items)
-        ≡ put (λ q. q.size) ended.now.size (λ q. merged q (point_of ended.now.size (ended.now ∷ [])))
-        (point_of ended.now.size (ended.now ∷ [])) (joined (map (λ b. b.items) points.old.items)) }
-    ensures same { result ≡ false → joined (map (λ b. b.items) points.new.items)
-        ≡ joined (map (λ b. b.items) points.old.items) }
+    requires rising { IsRising (map (λ p. p.size) (items_in points.old.items)) }
+    requires room { All HasRoom (items_in points.old.items) }
+    ensures added { result ≡ true → items_in points.new.items
+        ≡ put_point (point_of_one ended.now) (items_in points.old.items) }
+    ensures same { result ≡ false → items_in points.new.items ≡ items_in points.old.items }
     ensures filled { IsFilled (map (λ b. b.items) points.new.items) }
-    ensures known { (place : ℕ) → IsAt (map (λ p. p.size) (joined (map (λ b. b.items) points.old.items)))
+    ensures known { (place : ℕ) → IsAt (map (λ p. p.size) (items_in points.old.items))
         ended.now.size place → result ≡ true }
 {
     if blocks::reach(points, last, ended.size) {
@@ -168,11 +160,9 @@ fn add_size(
 ) -> Result<(), AllocError>
     requires filled { IsFilled (map (λ b. b.items) points.old.items) }
     requires gap { IsGapOf (λ p. p.size) (map (λ b. b.items) points.old.items) ended.size place.block place.at }
-    ensures ok { OnOk result (joined (map (λ b. b.items) points.new.items)
-        ≡ put (λ q. q.size) ended.size (λ q. merged q (point_of ended.size (ended ∷ [])))
-        (point_of ended.size (ended ∷ [])) (joined (map (λ b. b.items) points.old.items))) }
-    ensures err { OnErr result (joined (map (λ b. b.items) points.new.items)
-        ≡ joined (map (λ b. b.items) points.old.items)) }
+    ensures ok { OnOk result (items_in points.new.items
+        ≡ put_point (point_of_one ended) (items_in points.old.items)) }
+    ensures err { OnErr result (items_in points.new.items ≡ items_in points.old.items) }
     ensures filled { IsFilled (map (λ b. b.items) points.new.items) }
 {
     *last = blocks::insert(points, place, Tally::of_point(Point::of_one(ended)))?;
@@ -199,7 +189,7 @@ impl SortedPoints {
         requires rising { IsRising (map (λ p. p.size) self.old) }
         requires room { All HasRoom self.old }
         requires fits { HasRoom point }
-        ensures ok { OnOk result (self.new ≡ put (λ q. q.size) point.size (λ q. merged q point) point self.old) }
+        ensures ok { OnOk result (self.new ≡ put_point point self.old) }
         ensures err { OnErr result (self.new ≡ self.old) }
         ensures no_allocation { (place : ℕ) → IsAt (map (λ p. p.size) self.old) point.size place → IsOk result }
     {
@@ -211,8 +201,7 @@ impl SortedPoints {
     pub fn add_one(&mut self, ended: &Done) -> Result<(), AllocError>
         requires rising { IsRising (map (λ p. p.size) self.old) }
         requires room { All HasRoom self.old }
-        ensures ok { OnOk result (self.new ≡ put (λ q. q.size) ended.now.size (λ q. merged q (point_of ended.now.size (ended.now ∷ [])))
-            (point_of ended.now.size (ended.now ∷ [])) self.old) }
+        ensures ok { OnOk result (self.new ≡ put_point (point_of_one ended.now) self.old) }
         ensures err { OnErr result (self.new ≡ self.old) }
         ensures no_allocation { (place : ℕ) → IsAt (map (λ p. p.size) self.old) ended.now.size place → IsOk result }
     {
@@ -224,8 +213,7 @@ impl SortedPoints {
     pub fn add_known(&mut self, ended: &Done) -> bool
         requires rising { IsRising (map (λ p. p.size) self.old) }
         requires room { All HasRoom self.old }
-        ensures added { result ≡ true → self.new ≡ put (λ q. q.size) ended.now.size (λ q. merged q (point_of ended.now.size (ended.now ∷ [])))
-            (point_of ended.now.size (ended.now ∷ [])) self.old }
+        ensures added { result ≡ true → self.new ≡ put_point (point_of_one ended.now) self.old }
         ensures same { result ≡ false → self.new ≡ self.old }
         ensures known { (place : ℕ) → IsAt (map (λ p. p.size) self.old) ended.now.size place → result ≡ true }
     {
@@ -238,8 +226,7 @@ impl SortedPoints {
         requires own { own ≡ true → is_own ended.now ≡ true }
         requires rising { IsRising (map (λ p. p.size) self.old) }
         requires room { All HasRoom self.old }
-        ensures added { result ≡ true → self.new ≡ put (λ q. q.size) ended.now.size (λ q. merged q (point_of ended.now.size (ended.now ∷ [])))
-            (point_of ended.now.size (ended.now ∷ [])) self.old }
+        ensures added { result ≡ true → self.new ≡ put_point (point_of_one ended.now) self.old }
         ensures same { result ≡ false → self.new ≡ self.old }
         ensures known { (place : ℕ) → IsAt (map (λ p. p.size) self.old) ended.now.size place → result ≡ true }
     {

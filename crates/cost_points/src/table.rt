@@ -6,7 +6,7 @@ ghost use Rattle.trace_model.specs.Profile.{HasParts};
 ghost use Rattle.cost_points.specs.Keys.{IsRising};
 ghost use Rattle.cost_points.specs.Merging.{ArePointOf, with_point};
 ghost use Rattle.cost_points.specs.Search.{FindsKey, HasRoom, IsAt, IsInsertionPoint};
-ghost use Rattle.cost_points.specs.Points.{Routine, point_of};
+ghost use Rattle.cost_points.specs.Points.{Routine, point_of_one};
 ghost use Rattle.cost_points.specs.Contents.{contents_of};
 ghost use Rattle.cost_points.specs.Valid.{IsPoint, IsProfile};
 
@@ -62,7 +62,7 @@ impl Table {
         ensures ok { (added : List Done) → self.old ≡ contents_of added
             → OnOk result (self.new ≡ contents_of (added ++ ended ∷ [])) }
         ensures routines { OnOk result (self.new.routines
-            ≡ with_point ended.entry (point_of ended.size (ended ∷ [])) self.old.routines) }
+            ≡ with_point ended.entry (point_of_one ended) self.old.routines) }
         ensures members { OnOk result (self.new.members ≡ self.old.members + 1) }
         ensures err { OnErr result (self.new ≡ self.old) }
         ensures no_allocation { (at place : ℕ) (r : Routine) → slice_get self.old.routines at ≡ Some r
@@ -80,7 +80,7 @@ impl Table {
         ensures ok { (added : List Done) → self.old ≡ contents_of added
             → OnOk result (self.new ≡ contents_of (added ++ ended.now ∷ [])) }
         ensures routines { OnOk result (self.new.routines
-            ≡ with_point ended.now.entry (point_of ended.now.size (ended.now ∷ [])) self.old.routines) }
+            ≡ with_point ended.now.entry (point_of_one ended.now) self.old.routines) }
         ensures members { OnOk result (self.new.members ≡ self.old.members + 1) }
         ensures err { OnErr result (self.new ≡ self.old) }
         ensures no_allocation { (at place : ℕ) (r : Routine) → slice_get self.old.routines at ≡ Some r
@@ -102,7 +102,7 @@ impl Table {
         ensures added { (added : List Done) → self.old ≡ contents_of added
             → result ≡ true → self.new ≡ contents_of (added ++ ended.now ∷ []) }
         ensures routines { result ≡ true → self.new.routines
-            ≡ with_point ended.now.entry (point_of ended.now.size (ended.now ∷ [])) self.old.routines }
+            ≡ with_point ended.now.entry (point_of_one ended.now) self.old.routines }
         ensures members { result ≡ true → self.new.members ≡ self.old.members + 1 }
         ensures same { result ≡ false → self.new ≡ self.old }
         ensures known { (at place : ℕ) (r : Routine) → slice_get self.old.routines at ≡ Some r

@@ -1,6 +1,6 @@
 //! What is kept of the activations of a size.
 ghost use Rattle.std.specs.Prelude.{◌≡◌, [], ◌∷◌, max, min, true};
-ghost use Rattle.cost_points.specs.Points.{point_of};
+ghost use Rattle.cost_points.specs.Points.{point_of_one};
 ghost use Rattle.cost_points.specs.Merging.{merged};
 ghost use Rattle.cost_points.specs.Search.{HasRoom};
 ghost use Rattle.cost_points.specs.Private.Tallies.{is_own};
@@ -156,7 +156,7 @@ impl Tally {
         requires own { own ≡ true → is_own ended.now ≡ true }
         requires size { self.old.size ≡ ended.now.size }
         requires room { HasRoom self.old }
-        ensures { self.new ≡ merged self.old (point_of ended.now.size (ended.now ∷ [])) }
+        ensures { self.new ≡ merged self.old (point_of_one ended.now) }
     {
         let Done {
             cost,
@@ -181,7 +181,7 @@ impl Tally {
     pub(crate) fn add_one(&mut self, ended: &Done)
         requires size { self.old.size ≡ ended.now.size }
         requires room { HasRoom self.old }
-        ensures { self.new ≡ merged self.old (point_of ended.now.size (ended.now ∷ [])) }
+        ensures { self.new ≡ merged self.old (point_of_one ended.now) }
     {
         self.take_in(ended, is_own(ended));
     }

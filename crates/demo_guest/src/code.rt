@@ -8,6 +8,7 @@ ghost use Rattle.rv_asm.specs.Assembled.{binding_of};
 ghost use Rattle.demo_guest.specs.Guest.{ending, instructions, load};
 ghost use Rattle.demo_guest.specs.Private.Drafts.{call_lines, lines, plain, routine_lines, start_lines};
 ghost use Rattle.demo_guest.specs.Private.Drafts.{AreBound, AreRoutines, IsStarted};
+ghost use Rattle.rv_asm.specs.declared.limits.TheConstants.{PROGRAM_LINES};
 
 use crate::program::{bind, emit, emit_all, finish, jump, label};
 use guest_words::limits::DEMO_ROUTINES;
@@ -87,7 +88,7 @@ fn emit_start(program: &mut Builder, main: Label, worker: Label) -> Result<(), A
 
 // Appends a call of the routine of each label. Behind each call it is the other thread's turn.
 fn emit_calls(program: &mut Builder, labels: &[Label]) -> Result<(), AllocError>
-    requires room { length program.old.lines + 2 * length labels.now ≤ 4000000 }
+    requires room { length program.old.lines + 2 * length labels.now ≤ PROGRAM_LINES }
     requires labels { All (λ label. label < length program.old.bindings) labels.now }
     ensures lines { OnOk result (program.new.lines
         ≡ program.old.lines ++ flat_map call_lines labels.now) }
@@ -102,7 +103,7 @@ fn emit_calls(program: &mut Builder, labels: &[Label]) -> Result<(), AllocError>
 
 // Appends the end of all threads.
 fn emit_ending(program: &mut Builder) -> Result<(), AllocError>
-    requires room { length program.old.lines + 3 ≤ 4000000 }
+    requires room { length program.old.lines + 3 ≤ PROGRAM_LINES }
     ensures lines { OnOk result (program.new.lines ≡ program.old.lines ++ map plain ending) }
     ensures bindings { OnOk result (program.new.bindings ≡ program.old.bindings) }
 {
@@ -124,7 +125,7 @@ fn load(word: u32) -> Instr
 
 // Appends a routine.
 fn emit_routine(program: &mut Builder, routine: u32) -> Result<(), AllocError>
-    requires room { length program.old.lines + 5 ≤ 4000000 }
+    requires room { length program.old.lines + 5 ≤ PROGRAM_LINES }
     ensures lines { OnOk result (program.new.lines ≡ program.old.lines ++ routine_lines routine) }
     ensures bindings { OnOk result (program.new.bindings ≡ program.old.bindings) }
 {

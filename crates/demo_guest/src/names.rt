@@ -3,6 +3,7 @@ ghost use Rattle.std.specs.Prelude.{◌≡◌, ◌≤◌, ◌<◌, ◌+◌, ◌�
 ghost use Rattle.std.specs.List.{range_with_len};
 ghost use Rattle.guest_words.specs.Names.{is_name};
 ghost use Rattle.demo_guest.specs.Image.{address, routine_symbol, symbols};
+ghost use Rattle.rv_asm.specs.declared.limits.TheConstants.{PROGRAM_LINES};
 
 use guest_words::limits::DEMO_ROUTINES;
 use guest_words::{Name, NameError, push_decimal};
@@ -15,7 +16,7 @@ const ENTRY: u32 = 0x1_0054;
 // The symbol of a word, whose name these bytes are.
 fn named(alloc: Global, name: &[u8], word: u32) -> Result<Symbol, AllocError>
     requires name { is_name name.now ≡ true }
-    requires word { word ≤ 4000000 }
+    requires word { word ≤ PROGRAM_LINES }
     ensures symbol { IfOk result (λ symbol. symbol
         ≡ record { name = name.now; at = address word }) }
 {
@@ -23,7 +24,7 @@ fn named(alloc: Global, name: &[u8], word: u32) -> Result<Symbol, AllocError>
     match Name::new(alloc, name) {
         Ok(name) => Ok(Symbol { name, at }),
         Err(NameError::Memory) => Err(AllocError),
-        Err(NameError::Bad) => unreachable!(),
+        Err(NameError::Bad) => unreachable!(), // it is a name
     }
 }
 
@@ -39,7 +40,7 @@ fn routine_name(alloc: Global, routine: u32) -> Result<Vec<u8>, AllocError>
 // The symbol of a routine that begins at this word.
 fn routine_symbol(alloc: Global, routine: u32, word: u32) -> Result<Symbol, AllocError>
     requires routine { routine < DEMO_ROUTINES }
-    requires word { word ≤ 4000000 }
+    requires word { word ≤ PROGRAM_LINES }
     ensures { IfOk result (λ symbol. symbol
         ≡ record { name = 114 ∷ decimal (routine + 1); at = address word }) }
 {

@@ -6,6 +6,7 @@ ghost use Rattle.rv_asm.specs.Lines.{is_jump};
 ghost use Rattle.rv_asm.specs.Refusals.{IsAccepted};
 ghost use Rattle.rv_asm.specs.Draft.{with_label, with_line, with_binding};
 ghost use Rattle.demo_guest.specs.Private.Drafts.{jump, plain};
+ghost use Rattle.rv_asm.specs.declared.limits.TheConstants.{PROGRAM_LINES};
 
 use rv_asm::{AsmError, Builder, Code, Label};
 use rv_isa::Instr;
@@ -13,20 +14,20 @@ use std::alloc::AllocError;
 
 /// Appends an instruction that has a word.
 pub(crate) fn emit(program: &mut Builder, instruction: Instr) -> Result<(), AllocError>
-    requires room { length program.old.lines < 4000000 }
+    requires room { length program.old.lines < PROGRAM_LINES }
     requires encodable { IsEncodable instruction }
     ensures line { OnOk result (program.new ≡ with_line program.old (plain instruction)) }
 {
     match program.emit(instruction) {
         Ok(()) => Ok(()),
         Err(AsmError::Memory) => Err(AllocError),
-        Err(_) => unreachable!(),
+        Err(_) => unreachable!(), // the instruction has a word
     }
 }
 
 /// Appends instructions that have words.
 pub(crate) fn emit_all(program: &mut Builder, instructions: &[Instr]) -> Result<(), AllocError>
-    requires room { length program.old.lines + length instructions.now ≤ 4000000 }
+    requires room { length program.old.lines + length instructions.now ≤ PROGRAM_LINES }
     requires encodable { All IsEncodable instructions.now }
     ensures lines { OnOk result (program.new.lines
         ≡ program.old.lines ++ map plain instructions.now) }
@@ -40,20 +41,20 @@ pub(crate) fn emit_all(program: &mut Builder, instructions: &[Instr]) -> Result<
 
 /// Makes a label.
 pub(crate) fn label(program: &mut Builder) -> Result<Label, AllocError>
-    requires room { length program.old.bindings < 4000000 }
+    requires room { length program.old.bindings < PROGRAM_LINES }
     ensures made { OnOk result (program.new ≡ with_label program.old) }
     ensures number { IfOk result (λ label. label ≡ length program.old.bindings) }
 {
     match program.label() {
         Ok(label) => Ok(label),
         Err(AsmError::Memory) => Err(AllocError),
-        Err(_) => unreachable!(),
+        Err(_) => unreachable!(), // a label is refused only when out of memory
     }
 }
 
 /// Appends a jump to a label.
 pub(crate) fn jump(program: &mut Builder, instruction: Instr, to: Label) -> Result<(), AllocError>
-    requires room { length program.old.lines < 4000000 }
+    requires room { length program.old.lines < PROGRAM_LINES }
     requires label { to < length program.old.bindings }
     requires jump { is_jump instruction ≡ true }
     ensures line { OnOk result (program.new ≡ with_line program.old (jump instruction to)) }
@@ -61,7 +62,7 @@ pub(crate) fn jump(program: &mut Builder, instruction: Instr, to: Label) -> Resu
     match program.jump(instruction, to) {
         Ok(()) => Ok(()),
         Err(AsmError::Memory) => Err(AllocError),
-        Err(_) => unreachable!(),
+        Err(_) => unreachable!(), // the instruction is a jump
     }
 }
 
@@ -73,7 +74,7 @@ pub(crate) fn bind(program: &mut Builder, label: Label)
 {
     match program.bind(label) {
         Ok(()) => (),
-        Err(_) => unreachable!(),
+        Err(_) => unreachable!(), // the label is not bound
     }
 }
 
@@ -85,8 +86,9 @@ pub(crate) fn finish(program: Builder) -> Result<Code, AllocError>
     match program.finish() {
         Ok(code) => Ok(code),
         Err(AsmError::Memory) => Err(AllocError),
-        Err(AsmError::Unbound { label: _ }) => unreachable!(),
-        Err(AsmError::Reach { at: _ }) => unreachable!(),
+        Err(AsmError::Unbound { label: _ }) => unreachable!(), // each is bound
+        Err(AsmError::Reach { at: _ }) => unreachable!(), // each is in reach
+        // other calls are refused so
         Err(AsmError::Twice { label: _ } | AsmError::Unencodable { at: _ }) => unreachable!(),
     }
 }

@@ -85,7 +85,7 @@ impl SymbolNames {
         match Name::new(alloc, name_of(&self.strings, self.places[index])) {
             Ok(name) => Ok(Some(name)),
             Err(NameError::Memory) => Err(AllocError),
-            Err(NameError::Bad) => unreachable!(),
+            Err(NameError::Bad) => unreachable!(), // it was kept as a name
         }
     }
 }

@@ -1,10 +1,10 @@
-//! The thread that calls.
+//! The thread that makes a system call.
 ghost use Rattle.std.specs.Prelude.{◌≡◌, ◌<◌, ◌+◌, ◌%◌, ◌^◌, slice_index};
 
 use guest_words::Tid;
 use rv_exec::Cpu;
 
-/// The thread that calls, and its registers.
+/// The thread that makes a system call, and its registers.
 #[derive(Clone, Copy, Debug)]
 pub struct Caller {
     pub tid: Tid,
@@ -12,7 +12,7 @@ pub struct Caller {
 }
 
 impl Caller {
-    /// The number of the call, in a7.
+    /// The number of the system call, in a7.
     pub(crate) fn number(&self) -> u32
         ensures { result ≡ slice_index self.now.cpu.regs 17 }
     {

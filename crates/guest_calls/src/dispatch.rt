@@ -1,4 +1,4 @@
-//! A call of a guest, by its number.
+//! A system call of a guest, by its number.
 ghost use Rattle.std.specs.Prelude.{◌≡◌, true, IfOk, OnErr};
 ghost use Rattle.guest_memory.specs.Guest.{memory_of};
 ghost use Rattle.guest_kernel.specs.Invariant.{IsState};
@@ -19,7 +19,7 @@ use rv_exec::Cpu;
 use std::alloc::AllocError;
 use trace_model::Events;
 
-// The call, by its number.
+// The system call, by its number.
 fn carry_out(
     kernel: &mut Kernel,
     memory: &mut GuestMemory,
@@ -50,10 +50,10 @@ fn carry_out(
     }
 }
 
-/// Carries out the call that the thread's registers hold: the number in a7, the arguments in a0 to a5. The thread can run,
-/// so it does not wait and has no deadline. The call is a step, so that the time goes on first. The copies from and to the
-/// guest are added to the events, in order, at most `SYSCALL_EVENTS` of them; that a thread is born or ends is not. All memory
-/// is taken before anything changes.
+/// Carries out the system call that the thread's registers hold: the number in a7, the arguments in a0 to a5. The thread can
+/// run, so it does not wait and has no deadline. The call is a step, so that the time goes on first. The copies from and to
+/// the guest are added to the events, in order, at most `SYSCALL_EVENTS` of them; that a thread is born or ends is not. All
+/// memory is taken before anything changes.
 pub fn syscall(
     kernel: &mut Kernel,
     memory: &mut GuestMemory,

@@ -1,4 +1,4 @@
-//! The calls on one file: openat(2), close(2), _llseek(2) and read(2).
+//! The system calls on one file: openat(2), close(2), _llseek(2) and read(2).
 ghost use Rattle.std.specs.Prelude.{◌≡◌, ◌<◌, ◌≤◌, ◌+◌, ◌*◌, ◌^◌, take, pos, ◌+ℤ◌, unsigned_abs, length, true, false, IfSome, IfNone};
 ghost use Rattle.std.specs.List.{position};
 ghost use Rattle.std.specs.Int.{w64, cast_signed};

@@ -1,10 +1,10 @@
-//! A law of the calls: the contract of a function that does nothing.
+//! A law of the system calls: the contract of a function that does nothing.
 ghost use Rattle.guest_calls.specs.Laws.{EverySyscallIsLawful};
 
-/// Each call keeps what a call has to keep, whatever it does: its events are few, light, and copies for its thread; where no
-/// page from the break up to its limit is mapped, none is afterwards; which threads live, and the number of a new one, go by
-/// the answer; who has a reservation lives; a thread that could run and goes on can run; and only write and writev put bytes
-/// out.
+/// Each system call keeps what one has to keep, whatever it does: its events are few, light, and copies for its thread;
+/// where no page from the break up to its limit is mapped, none is afterwards; which threads live, and the number of a new
+/// one, go by the answer; who has a reservation lives; a thread that could run and goes on can run; and only write and
+/// writev put bytes out.
 pub fn every_syscall_is_lawful()
     ensures lawful { EverySyscallIsLawful }
 {}

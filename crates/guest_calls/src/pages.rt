@@ -1,4 +1,4 @@
-//! The calls on pages: brk(2), munmap(2), mmap2(2) and mprotect(2).
+//! The system calls on pages: brk(2), munmap(2), mmap2(2) and mprotect(2).
 ghost use Rattle.std.specs.Prelude.{◌≡◌, ℕ, ◌≤◌, ◌<◌, ◌+◌, ◌%◌, ◌^◌, ◌==◌, true, IfOk, IfSome, OnOk, OnErr, Some};
 ghost use Rattle.guest_memory.specs.declared.reservations.Reservations.{Reservations};
 ghost use Rattle.guest_memory.specs.Guest.{memory_of};

@@ -1,4 +1,4 @@
-//! The calls by their numbers on riscv32.
+//! The system calls by their numbers on riscv32.
 ghost use Rattle.std.specs.Prelude.{◌≡◌, ◌≢◌, ◌≤◌, ◌+◌, true, IfOk, OnErr, slice_index};
 ghost use Rattle.guest_memory.specs.Guest.{memory_of};
 ghost use Rattle.guest_kernel.specs.declared.answer.Answer.TheVariants.{Back};
@@ -29,14 +29,14 @@ use guest_words::limits::SYSCALL_EVENTS;
 use std::alloc::AllocError;
 use trace_model::Events;
 
-// The call does nothing, and this is answered.
+// The system call does nothing, and this is answered.
 fn always(value: u32) -> Answer
     ensures { result ≡ Back value }
 {
     Answer::Back { value }
 }
 
-/// Carries out a call that writes to no channel.
+/// Carries out a system call that writes to no channel.
 pub(crate) fn syscall(
     state: &mut State,
     memory: &mut GuestMemory,

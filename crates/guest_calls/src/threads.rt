@@ -1,4 +1,4 @@
-//! The calls on threads and the process: exit(2), exit_group(2), set_tid_address(2) and rt_sigprocmask(2).
+//! The system calls on threads and the process: exit(2), exit_group(2), set_tid_address(2) and rt_sigprocmask(2).
 ghost use Rattle.std.specs.Prelude.{◌≡◌, ◌≤◌, ◌+◌, true};
 ghost use Rattle.guest_memory.specs.declared.memory.GuestMemory.{GuestMemory};
 ghost use Rattle.trace_model.specs.EventList.{EventList};

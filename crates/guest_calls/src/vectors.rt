@@ -1,4 +1,4 @@
-//! The calls on files in parts: readv(2) and writev(2).
+//! The system calls on files in parts: readv(2) and writev(2).
 ghost use Rattle.std.specs.Prelude.{◌≡◌, ◌≤◌, ◌<◌, ◌+◌, ◌*◌, ◌^◌, ◌++◌, length, vec_len, true, None, IfOk, IfErr, OnErr};
 ghost use Rattle.guest_memory.specs.Guest.{memory_of};
 ghost use Rattle.guest_memory.specs.Memory.{number_at};
@@ -20,10 +20,10 @@ use guest_words::{Addr, Tid};
 use std::alloc::{AllocError, Global};
 use trace_model::Events;
 
-// The most parts of one call.
+// The most parts of one system call.
 const PART_LIMIT: u32 = 1024;
 
-// The most bytes that the parts of one call have.
+// The most bytes that the parts of one system call have.
 const SUM_LIMIT: u64 = 0x7FFF_FFFF;
 
 /// The word at an address, each byte of which can be read.

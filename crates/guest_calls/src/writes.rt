@@ -1,4 +1,4 @@
-//! The calls that write: write(2) and writev(2).
+//! The system calls that write: write(2) and writev(2).
 ghost use Rattle.std.specs.Prelude.{◌≡◌, ◌≤◌, ◌+◌, IfOk, OnErr};
 ghost use Rattle.guest_memory.specs.declared.reservations.Reservations.{Reservations};
 ghost use Rattle.guest_kernel.specs.Descriptors.{channel};

@@ -1,8 +1,8 @@
-//! What a call answers.
+//! What a system call answers.
 use guest_words::Tid;
 use rv_exec::Cpu;
 
-/// What becomes of the thread that called.
+/// What becomes of the thread that made a system call.
 #[derive(Clone, Copy, Debug, PartialEq, Eq)]
 pub enum Answer {
     /// It goes on, with this in a0.

@@ -10,17 +10,17 @@ use crate::{Channel, Inputs, Outgoing, State};
 use guest_words::{Addr, ReadyList, Tid};
 use std::alloc::{AllocError, Global};
 
-/// What the kernel keeps of a guest, and the bytes that the last call wrote.
+/// What the kernel keeps of a guest, and the bytes that the last system call wrote.
 #[derive(Drop)]
 pub struct Kernel {
-    /// What is kept between two calls.
+    /// What is kept between two system calls.
     pub state: State,
-    /// What the last call wrote.
+    /// What the last system call wrote.
     pub outgoing: Outgoing,
 }
 
 impl Kernel {
-    /// Thread 1 lives, the descriptors 0, 1 and 2 are open, and the break is the first one. The room for what a call
+    /// Thread 1 lives, the descriptors 0, 1 and 2 are open, and the break is the first one. The room for what a system call
     /// writes is taken here.
     pub fn new(
         alloc: Global,
@@ -78,7 +78,7 @@ impl Kernel {
         woken
     }
 
-    /// The channel and the bytes of the last call, where it was a write of at least one byte.
+    /// The channel and the bytes of the last system call, where it was a write of at least one byte.
     pub fn outgoing(&self) -> Option<(Channel, &[u8])>
         ensures out { option_map (λ out. (out.0, out.1.now)) result ≡ self.now.outgoing }
     {

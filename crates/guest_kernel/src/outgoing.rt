@@ -1,4 +1,4 @@
-//! The bytes that a call writes.
+//! The bytes that a system call writes.
 ghost use Rattle.std.specs.Prelude.{◌≡◌, ◌≤◌, true, None, IfOk};
 ghost use Rattle.guest_memory.specs.Guest.{memory_of};
 ghost use Rattle.guest_memory.specs.Memory.{bytes_at};
@@ -15,7 +15,7 @@ use guest_words::Addr;
 use std::alloc::{AllocError, Global};
 use std::marker::Model;
 
-/// The most bytes that one call writes.
+/// The most bytes that one system call writes.
 pub const WRITE_LIMIT: u32 = 65536;
 
 /// The bytes of the last write and their channel. The room for them is taken as it is made.
@@ -51,7 +51,7 @@ impl Outgoing {
         })
     }
 
-    /// Drops the bytes of the last call.
+    /// Drops the bytes of the last system call.
     pub fn clear(&mut self)
         ensures { self.new ≡ None }
     {

@@ -8,7 +8,7 @@ use crate::copies::copy_to;
 use guest_memory::GuestMemory;
 use guest_words::Addr;
 
-/// A part of the bytes that one call carries.
+/// A part of the bytes that one system call carries.
 #[derive(Clone, Copy, Debug, PartialEq, Eq)]
 pub struct IoVec {
     pub at: Addr,

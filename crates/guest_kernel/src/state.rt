@@ -120,7 +120,7 @@ impl State {
         self.program_break = at;
     }
 
-    /// What holds between calls.
+    /// What holds between system calls.
     pub fn holds(&self)
         ensures { IsState self.now }
     {

@@ -1,6 +1,7 @@
 -- A program that is being written: its lines so far, and the labels that it has made.
 use Rattle.std.specs.Prelude.{◌≡◌, ℕ, ◌≤◌, List, [], ◌∷◌, ◌++◌, length, slice_set, All, Option, Some, None, IfSome}
 use Rattle.rv_isa.specs.Encoding.{IsEncodable}
+use Rattle.rv_asm.specs.declared.limits.TheConstants.{PROGRAM_LINES}
 use Rattle.rv_asm.specs.declared.line.Line.{Line}
 
 -- A draft: a line for each word of code, and for each label the word that it stands for, once it is bound.
@@ -30,11 +31,11 @@ IsWritable line = line.to ≡ None → IsEncodable line.instruction
 
 -- a label that is bound stands for a word of the code or for its end
 abbrev pub IsBinding : Option ℕ → Type 0
-IsBinding binding = IfSome binding (λ at. at ≤ 4000000)
+IsBinding binding = IfSome binding (λ at. at ≤ PROGRAM_LINES)
 
 -- What every draft keeps.
 pub record IsSoundDraft (d : Draft) : Type 0 where
-  pub short : length d.lines ≤ 4000000
-  pub few : length d.bindings ≤ 4000000
+  pub short : length d.lines ≤ PROGRAM_LINES
+  pub few : length d.bindings ≤ PROGRAM_LINES
   pub writable : All IsWritable d.lines
   pub bound : All IsBinding d.bindings

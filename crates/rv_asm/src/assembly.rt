@@ -5,6 +5,7 @@ ghost use Rattle.rv_asm.specs.Assembled.{instruction_at, binding_of, AreAssemble
 ghost use Rattle.rv_asm.specs.Draft.{IsBinding, IsWritable};
 ghost use Rattle.rv_asm.specs.Refusals.{first_unbound, is_ready, AreInReach};
 ghost use Rattle.rv_asm.specs.Private.Reach.{IsOutOfReach};
+ghost use Rattle.rv_asm.specs.declared.limits.TheConstants.{PROGRAM_LINES};
 
 use crate::error::AsmError;
 use crate::line::{Line, with_offset};
@@ -42,7 +43,7 @@ pub(crate) fn first_unbound(lines: &[Line], bindings: &[Option<u32>]) -> Option<
 
 // The instruction of the line at a word, where each label stands for a word of the code or for its end.
 fn instruction_at(line: Line, at: u32, bindings: &[Option<u32>]) -> Instr
-    requires at { at ≤ 4000000 }
+    requires at { at ≤ PROGRAM_LINES }
     requires bindings { All IsBinding bindings.now }
     ensures { result ≡ instruction_at bindings.now at line }
 {
@@ -76,7 +77,7 @@ pub(crate) fn words_of(
     lines: &[Line],
     bindings: &[Option<u32>],
 ) -> Result<Vec<u32>, AsmError>
-    requires short { length lines.now ≤ 4000000 }
+    requires short { length lines.now ≤ PROGRAM_LINES }
     requires writable { All IsWritable lines.now }
     requires bindings { All IsBinding bindings.now }
     ensures words { IfOk result (λ words.

@@ -5,6 +5,7 @@ ghost use Rattle.rv_asm.specs.Assembled.{binding_of, AreAssembled};
 ghost use Rattle.rv_asm.specs.Lines.{is_jump};
 ghost use Rattle.rv_asm.specs.Refusals.{IsAccepted, IsDraftRefused};
 ghost use Rattle.rv_asm.specs.Draft.{empty_draft, with_label, with_line, with_binding};
+ghost use Rattle.rv_asm.specs.declared.limits.TheConstants.{PROGRAM_LINES};
 
 use crate::assembly::{binding_of, first_unbound, is_encodable, words_of};
 use crate::error::AsmError;
@@ -92,7 +93,7 @@ impl Builder {
 
     /// Appends an instruction.
     pub fn emit(&mut self, i: Instr) -> Result<(), AsmError>
-        requires { length self.old.lines < 4000000 }
+        requires { length self.old.lines < PROGRAM_LINES }
         ensures line { OnOk result (self.new ≡ with_line self.old
             (record { instruction = i; to = None })) }
         ensures encodable { OnOk result (IsEncodable i) }
@@ -113,7 +114,7 @@ impl Builder {
 
     /// Makes a label. Labels are numbered from 0 on.
     pub fn label(&mut self) -> Result<Label, AsmError>
-        requires { length self.old.bindings < 4000000 }
+        requires { length self.old.bindings < PROGRAM_LINES }
         ensures made { OnOk result (self.new ≡ with_label self.old) }
         ensures number { IfOk result (λ label. label ≡ length self.old.bindings) }
         ensures unchanged { OnErr result (self.new ≡ self.old) }
@@ -126,7 +127,7 @@ impl Builder {
 
     /// Appends a jump whose offset will be that of the label. The offset of `i` is not looked at.
     pub fn jump(&mut self, i: Instr, to: Label) -> Result<(), AsmError>
-        requires room { length self.old.lines < 4000000 }
+        requires room { length self.old.lines < PROGRAM_LINES }
         requires label { to < length self.old.bindings }
         ensures line { OnOk result (self.new ≡ with_line self.old
             (record { instruction = i; to = Some to })) }

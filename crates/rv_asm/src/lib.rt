@@ -9,9 +9,11 @@ mod error;
 mod executable;
 mod fields;
 mod headers;
+mod limits;
 mod line;
 mod symbols;
 
 pub use builder::{Builder, Code, Label};
 pub use error::AsmError;
 pub use executable::{Symbol, write_exec};
+pub use limits::PROGRAM_LINES;

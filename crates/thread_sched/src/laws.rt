@@ -12,7 +12,7 @@ pub fn a_recording_is_read_as_its_turns()
 {}
 
 /// A text has one reading: the entries whose text it is, or else the number of its first line that is not an entry's. Where
-/// that is line 1, no reading ends for want of memory.
+/// that is line 1, no reading runs out of memory.
 pub fn a_text_reads_in_one_way()
     ensures entries { (text : List ℕ) (entries other : List Entry) → AllByRecursion IsEntry entries
         → AllByRecursion IsEntry other → IsText text entries → IsText text other → other ≡ entries }

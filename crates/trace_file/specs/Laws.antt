@@ -13,7 +13,7 @@ TextIsOfOneTrace =
     (bytes : List ℕ) (past past' : List Event) (names names' : Names) (f f' : Finish) → IsTrace bytes past names f → IsTrace bytes past' names' f' →
     (past ≡ past') × (names ≡ names') × (f ≡ f')
 
--- There is one refusal of bytes, with one list of events before it, but for want of memory.
+-- Unless memory runs out, bytes have at most one refusal, with one list of events before it.
 abbrev pub BytesAreRefusedInOneWay : Type 0
 BytesAreRefusedInOneWay =
     (bytes : List ℕ) (past past' : List Event) (e e' : TraceError) → IsTraceRefused bytes past e → IsTraceRefused bytes past' e' → e ≢ errors.Memory → e' ≢ errors.Memory →

@@ -18,7 +18,7 @@ pub record OrderState : Type 0 where
 abbrev pub is_among : List ℕ → ℕ → Bool
 is_among threads t = list_any (nat_eq t) threads
 
--- What is so of each.
+-- What holds of every state.
 pub record IsInOrder (o : OrderState) : Type 0 where
   pub rising : AllPairs (λ t u. t < u) o.live
   pub started : All (λ t. t ≤ o.greatest) o.live
@@ -36,7 +36,7 @@ pub record IsOrderOf (o : OrderState) (past : List Event) : Type 0 where
 abbrev pub progress_of : OrderState → ProgressState
 progress_of o = record { last = o.last; greatest = o.greatest; weight = o.weight }
 
--- The event may come next, as the state shows: what it shows is so of all pasts whose order it is.
+-- The event may come next, by the state alone: what it shows holds for every past whose order it is.
 abbrev pub MayCome : OrderState → Event → Type 0
 MayCome o e = IsAllowed e (is_of_one (is_among o.live) e) (progress_of o)
 

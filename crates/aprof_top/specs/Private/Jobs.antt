@@ -1,6 +1,9 @@
 -- How the run of a guest ends, and what is made of it.
-use Rattle.std.specs.Prelude.{◌≡◌, ◌⊎◌, ℕ, Bool, List, [], ◌∷◌, take, Option, Some, None, Result, Ok, Err}
+use Rattle.std.specs.Prelude.{◌≡◌, ◌⊎◌, ℕ, ◌<◌, ◌≤◌, Bool, List, [], ◌∷◌, length, take, Option, Some, None, MatchOption, Result, Ok, Err, Vec}
+use Rattle.std.specs.declared.alloc.Global.{Global}
 use Rattle.command_line.specs.Options.{GuestOptions, arguments}
+use Rattle.command_line.specs.Read.{analysis_in, guest_in}
+use Rattle.command_line.specs.declared.guest_command.GuestCommand.{GuestCommand}
 use Rattle.guest_machine.specs.Setup.{setup_refusal}
 use Rattle.guest_machine.specs.Start.{start}
 use Rattle.guest_machine.specs.declared.setup.SetupError.{SetupError}
@@ -30,6 +33,8 @@ use Rattle.aprof_top.specs.declared.trace_job.TracedRun.{TracedRun}
 use Rattle.cache_lines.specs.Shapes.{Dimensions}
 use Rattle.cache_profile.specs.ReportText.{Reported}
 use Rattle.elf_image.specs.Image.{Executable}
+use Rattle.guest_words.specs.declared.endings.Finish.{Finish}
+use Rattle.guest_words.specs.declared.limits.TheConstants.{TRACE_BYTES}
 use Rattle.aprof_top.specs.CacheMisses.{misses_of}
 use Rattle.stored_traces.specs.Entries.{entries_begun}
 use Rattle.stored_traces.specs.declared.written.EventText.{EventText}
@@ -37,7 +42,7 @@ use Rattle.stored_traces.specs.Kept.{IsTooLong}
 use Rattle.trace_file.specs.TraceText.{IsTextOf}
 use Rattle.aprof_top.specs.Delivery.{DoesAll, FailsAtStats, FailsAtStore, FailsOnErr, FailsOnOut, FailsWithin, StoreFails, StopsShort}
 use Rattle.aprof_top.specs.Loads.{Loaded}
-use Rattle.aprof_top.specs.Outcome.{IsRun, Job, Outcome}
+use Rattle.aprof_top.specs.Outcome.{IsRun, Job, Outcome, job_of}
 use Rattle.aprof_top.specs.Outside.{Outside, with_stores}
 use Rattle.aprof_top.specs.Private.Preparing.{ArePrepared}
 use Rattle.aprof_top.specs.Run.{observed_from}
@@ -67,6 +72,12 @@ abbrev pub ImageRuns : {W : Type 0} → (W → List Event → Type 0) → Option
 ImageRuns Stands setup run before observer after (Ok ended) = (setup ≡ None) × IsWhole Stands run before observer after ended
 ImageRuns Stands setup run before observer after (Err e) = RunStops setup run before after e
 
+-- the same of an executable with the words of its command and what its guest finds beside it, observed as far as its trace fits
+abbrev pub GuestRuns : {W : Type 0} → (W → List Event → Type 0) → (List Event → Bool) → GuestOptions → Executable → GuestFiles → Sinks → W → Sinks → Result Ended Ending → Type 0
+GuestRuns Stands fits options image files =
+    ImageRuns Stands (setup_refusal image (arguments options))
+    (observed_from fits options files.schedule image.entry (start image (arguments options) files.inputs files.stdin.items))
+
 -- How the run of an executable ends of which something is made: it came to its end, all of its output was put, and this was made
 -- of it; or it stops.
 abbrev pub ImageIsRun : {A : Type 0} → (A → ObservedRun → Type 0) → Option SetupError → ObservedRun → Sinks → Sinks → Result A Ending → Type 0
@@ -92,6 +103,10 @@ pub record IsKept {K D : Type 0} (Holds : K → List Event → List D → Type 0
   pub recorded : kept.ended.recording ≡ recording run.moves
   pub finish : kept.ended.finish ≡ run.finish
 
+-- the run ended so
+abbrev pub EndsAs : Finish → ObservedRun → Type 0
+EndsAs finish run = finish ≡ run.finish
+
 -- These are the totals of a run, by stamps up to the greatest, its recording and its end.
 pub record IsProfiled (most : ℕ) (profiled : ProfiledRun) (run : ObservedRun) : Type 0 where
   pub totals : AreTotalsOf most profiled.totals run.past
@@ -102,6 +117,10 @@ pub record IsProfiled (most : ℕ) (profiled : ProfiledRun) (run : ObservedRun) 
 abbrev pub AreTexts : Option EventText → List Event → Type 0
 AreTexts None past = IsTooLong past
 AreTexts (Some text) past = IsTextOf text.writer past × (text.entries.keys ≡ entries_begun past)
+
+-- the text, unless it is too long to be stored
+abbrev pub IsShortText : List ℕ → Option (Vec ℕ Global) → Type 0
+IsShortText text found = MatchOption found (TRACE_BYTES < length text) (λ bytes. (bytes.items ≡ text) × (length bytes.items ≤ TRACE_BYTES))
 
 -- These are the texts of a run's events, and its end.
 pub record IsTraced (traced : TracedRun) (run : ObservedRun) : Type 0 where
@@ -165,6 +184,15 @@ RunIsStored outcome old new (Err CannotPut) = AreStored outcome old new (FailsWi
 RunIsStored outcome old new (Err OutOfMemory) = StopsAtStores old new (λ before after. (count : ℕ) × (after ≡ with_stores (take count outcome.stores) before))
 RunIsStored outcome old new _ = ⊥
 
+-- how it ends for what was made of a run: so do the stores of that run's outcome, and the put of its statistics
+abbrev pub IsDelivered : {A : Type 0} → (A → ObservedRun → Type 0) → (ObservedRun → Outcome) → A → Desk → Desk → Result Verdict Ending → Type 0
+IsDelivered IsMade outcome_of made old new result = (run : ObservedRun) → IsMade made run → RunIsStored (outcome_of run) old new result
+
+-- the same where nothing is put on `err`, whatever it has
+abbrev pub IsStored : {A : Type 0} → (A → ObservedRun → Type 0) → (ObservedRun → Outcome) → A → FilesState → FilesState → Result Verdict Ending → Type 0
+IsStored IsMade outcome_of made old new result =
+    (run : ObservedRun) → IsMade made run → (err : SinkState) → RunIsStored (outcome_of run) (desk old err) (desk new err) result
+
 -- One of these outcomes is handed out so.
 pub record IsHandedOut (Is : Outcome → Type 0) (Delivered : Outcome → Type 0) : Type 0 where
   pub outcome : Outcome
@@ -183,6 +211,10 @@ HandsOut Is before after CannotWrite =
 HandsOut Is before after CannotPut =
     IsHandedOut Is (IsOfRunAnd (λ outcome. FailsOnErr outcome before after ⊎ FailsAtStats outcome before after))
 HandsOut Is before after OutOfMemory = (after ≡ before) ⊎ IsHandedOut Is (λ outcome. StopsShort outcome before after)
+
+-- the job that a command asks for
+abbrev pub job_in : GuestCommand → Job
+job_in command = job_of (guest_in command.guest) command.output.now (analysis_in command.analysis)
 
 -- how the run of a command's files ends
 abbrev pub FilesRun : Job → Loaded → Outside → Outside → Ending → Type 0

@@ -96,7 +96,7 @@ pub record Remains {W : Type 0} (Stands : W → List Event → Type 0) (fits : L
   pub output : now ≡ with_output moves before
   pub count_is : length moves ≡ count
 
--- It is so of some run.
+-- `count` moves of some run were made, and it goes on.
 pub record RemainsSome {W : Type 0} (Stands : W → List Event → Type 0) (fits : List Event → Bool) (count : ℕ) (r : Standing) (observer : W) (now : Sinks) : Type 0 where
   pub first : List Event
   pub start : Position MachineState

@@ -23,4 +23,4 @@ returns g c =
     (g.F.Files.state c.args.files.now) (g.O.Sink.state c.args.out.now) (g.E.Sink.state c.args.err.now)
     (sinks (g.O.Sink.state c.contexts_of_run.new.out) (g.E.Sink.state c.contexts_of_run.new.err))
     c.in_ok-run.ensures.0 c.in_ok-run.ensures.1 (g.F.Files.state c.deliver_contexts.new.files) (g.E.Sink.state c.contexts_of_run.new.err) c.deliver_contexts.result
-    (c.deliver_contexts.ensures c.args.bits (greatest c.args.bits) (seen_of (follows_to analysis) guest c.args.prepared) whole.finish whole.contexts_are (g.E.Sink.state c.contexts_of_run.new.err))
+    (c.deliver_contexts.ensures c.args.bits (greatest c.args.bits) (seen_of (follows_to analysis) guest c.args.prepared) whole (g.E.Sink.state c.contexts_of_run.new.err))

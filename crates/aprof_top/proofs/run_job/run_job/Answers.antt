@@ -22,4 +22,4 @@ returns g c =
     (g.F.Files.state c.args.files.now) (g.O.Sink.state c.args.out.now) (g.E.Sink.state c.args.err.now)
     (sinks (g.O.Sink.state c.profile_image.new.out) (g.E.Sink.state c.profile_image.new.err))
     c.in_ok-run.ensures.0 c.in_ok-run.ensures.1 (g.F.Files.state c.deliver_run.new.files) (g.E.Sink.state c.deliver_run.new.err) c.deliver_run.result
-    (c.deliver_run.ensures (seen_of (follows_to analysis) guest c.args.prepared) whole.totals whole.recorded whole.finish)
+    (c.deliver_run.ensures (seen_of (follows_to analysis) guest c.args.prepared) whole)

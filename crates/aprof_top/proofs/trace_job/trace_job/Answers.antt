@@ -24,7 +24,7 @@ returns g c =
     (g.F.Files.state c.args.files.now) (g.O.Sink.state c.args.out.now) (g.E.Sink.state c.args.err.now)
     (sinks (g.O.Sink.state c.trace_image.new.out) (g.E.Sink.state c.trace_image.new.err))
     c.in_ok-run.ensures.0 c.in_ok-run.ensures.1 (g.F.Files.state c.deliver_trace.new.files) (g.E.Sink.state c.trace_image.new.err) c.deliver_trace.result
-    (c.deliver_trace.ensures (seen_of (follows_to Trace) guest c.args.prepared) whole.finish whole.text (g.E.Sink.state c.trace_image.new.err))
+    (c.deliver_trace.ensures (seen_of (follows_to Trace) guest c.args.prepared) whole (g.E.Sink.state c.trace_image.new.err))
 
 pub deliver_trace-requires-clause-line : goal.deliver_trace-requires-clause-line
 deliver_trace-requires-clause-line g c =
