@@ -159,18 +159,24 @@ impl<S: Lanes, K: Keeper> Profile<S, K> {
     // Takes steps of a thread and an event after them. It stands apart, so that the code of what mostly happens is short and saves
     // no register.
     #[inline(never)]
-    fn observe_after_apart(
-        &mut self,
-        tid: Tid,
-        count: u64,
-        e: Event,
-    ) -> Result<Observed, AllocError>
+    fn observe_both(&mut self, tid: Tid, count: u64, e: Event) -> Result<Observed, AllocError>
         requires may { MayTakeAfter (IsProfileOf S.MAX K.holds) (is_within S.MAX) self.old tid count e }
         requires some { 1 ≤ count }
         ensures observed { IfOk result (ObservesAfter (IsProfileOf S.MAX K.holds) (is_within S.MAX) tid count e self.old self.new) }
     {
         self.observe_steps(tid, count)?;
         self.observe(e)
+    }
+
+    // The same. The event is copied here, so that the compiler has it in memory only where this is called.
+    #[inline(always)]
+    fn observe_apart(&mut self, tid: Tid, count: u64, e: &Event) -> Result<Observed, AllocError>
+        requires may { MayTakeAfter (IsProfileOf S.MAX K.holds) (is_within S.MAX) self.old tid count e.now }
+        requires some { 1 ≤ count }
+        ensures observed { IfOk result (ObservesAfter (IsProfileOf S.MAX K.holds) (is_within S.MAX) tid count e.now self.old self.new) }
+    {
+        let copy = *e;
+        self.observe_both(tid, count, copy)
     }
 
     // Counts steps of a thread and hands them to the keeper, which has taken all before them, and then an event that ends no
@@ -213,13 +219,13 @@ impl<S: Lanes, K: Keeper> Profile<S, K> {
             count: words,
         };
         if words != 1 {
-            return self.observe_after_apart(tid, count, e);
+            return self.observe_apart(tid, count, &e);
         }
         if reader != tid {
-            return self.observe_after_apart(tid, count, e);
+            return self.observe_apart(tid, count, &e);
         }
         if self.next.is_some() {
-            return self.observe_after_apart(tid, count, e);
+            return self.observe_apart(tid, count, &e);
         }
         match self.profiler.word_read(tid, first) {
             Some(access) => {
@@ -227,7 +233,7 @@ impl<S: Lanes, K: Keeper> Profile<S, K> {
                 self.profiler.read_after(tid, count, first, access);
                 Ok(Observed::Taken)
             }
-            None => self.observe_after_apart(tid, count, e),
+            None => self.observe_apart(tid, count, &e),
         }
     }
 
@@ -251,13 +257,13 @@ impl<S: Lanes, K: Keeper> Profile<S, K> {
             count: words,
         };
         if words != 1 {
-            return self.observe_after_apart(tid, count, e);
+            return self.observe_apart(tid, count, &e);
         }
         if writer != tid {
-            return self.observe_after_apart(tid, count, e);
+            return self.observe_apart(tid, count, &e);
         }
         if self.next.is_some() {
-            return self.observe_after_apart(tid, count, e);
+            return self.observe_apart(tid, count, &e);
         }
         match self.profiler.word_written(tid, first) {
             Some(written) => {
@@ -265,7 +271,7 @@ impl<S: Lanes, K: Keeper> Profile<S, K> {
                 self.profiler.write_after(tid, count, first, written);
                 Ok(Observed::Taken)
             }
-            None => self.observe_after_apart(tid, count, e),
+            None => self.observe_apart(tid, count, &e),
         }
     }
 
@@ -289,13 +295,13 @@ impl<S: Lanes, K: Keeper> Profile<S, K> {
             back,
         };
         if caller != tid {
-            return self.observe_after_apart(tid, count, e);
+            return self.observe_apart(tid, count, &e);
         }
         if self.next.is_some() {
-            return self.observe_after_apart(tid, count, e);
+            return self.observe_apart(tid, count, &e);
         }
         if !self.profiler.call_after(tid, count, entry, back) {
-            return self.observe_after_apart(tid, count, e);
+            return self.observe_apart(tid, count, &e);
         }
         self.pass_after(tid, count, e);
         Ok(Observed::Taken)
@@ -319,13 +325,13 @@ impl<S: Lanes, K: Keeper> Profile<S, K> {
             target,
         };
         if returner != tid {
-            return self.observe_after_apart(tid, count, e);
+            return self.observe_apart(tid, count, &e);
         }
         if self.next.is_some() {
-            return self.observe_after_apart(tid, count, e);
+            return self.observe_apart(tid, count, &e);
         }
         if self.ended.capacity() < 1 {
-            return self.observe_after_apart(tid, count, e);
+            return self.observe_apart(tid, count, &e);
         }
         match self.profiler.return_after(tid, count, target) {
             Some(ended) => {
@@ -339,7 +345,7 @@ impl<S: Lanes, K: Keeper> Profile<S, K> {
                 self.next = Some(e);
                 Ok(Observed::Taken)
             }
-            None => self.observe_after_apart(tid, count, e),
+            None => self.observe_apart(tid, count, &e),
         }
     }
 
@@ -437,7 +443,7 @@ ghost use Rattle.run_profile.specs.Profile.{IsProfileOf};
                 tid: returner,
                 target,
             } => self.observe_return(tid, count, returner, target),
-            _ => self.observe_after_apart(tid, count, e),
+            _ => self.observe_apart(tid, count, &e),
         }
     }
 

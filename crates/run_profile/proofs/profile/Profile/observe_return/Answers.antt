@@ -56,7 +56,7 @@ returns-in-None g c =
     let old : KeptRun g.row.K.Denot = record { stamps = c.self.inside.profiler; kept = c.self.inside.kept; next = c.self.inside.next; ended = c.self.inside.ended.items; steps = c.self.inside.steps } in
     let same = ap (λ (s : State). record old { stamps = s }) c.in-None.ensures.same ∙ c.self.view_is in
     record {
-      observed = subst (λ (k : KeptRun g.row.K.Denot). IfOk c.observe_after_apart-in-None.result
-          (ObservesAfter (IsProfileOf g.S.Stamp.MAX g.K.Keeper.holds) (is_within g.S.Stamp.MAX) c.args.tid c.args.count (Ret c.args.returner c.args.target) k c.observe_after_apart-in-None.new.self))
-          same c.observe_after_apart-in-None.ensures.observed;
+      observed = subst (λ (k : KeptRun g.row.K.Denot). IfOk c.observe_apart-in-None.result
+          (ObservesAfter (IsProfileOf g.S.Stamp.MAX g.K.Keeper.holds) (is_within g.S.Stamp.MAX) c.args.tid c.args.count (Ret c.args.returner c.args.target) k c.observe_apart-in-None.new.self))
+          same c.observe_apart-in-None.ensures.observed;
     }

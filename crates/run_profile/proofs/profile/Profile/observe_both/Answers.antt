@@ -3,7 +3,7 @@ use Rattle.std.proofs.lemmas.Result.{IfOk-weaker}
 use Rattle.trace_model.specs.Depth.{is_within}
 use Rattle.trace_model.proofs.Feeding.{observes_after}
 use Rattle.run_profile.specs.Profile.{IsProfileOf}
-use Rattle.run_profile.proofs.profile.Profile.observe_after_apart.Goals as goal
+use Rattle.run_profile.proofs.profile.Profile.observe_both.Goals as goal
 
 pub returns : goal.returns
 returns g c =
