@@ -1,4 +1,4 @@
--- Targets of returns that were searched in vain. Return addresses come the outermost call's first.
+-- Targets of returns that no open call has. Return addresses come the outermost call's first.
 use Rattle.std.specs.Prelude.{◌≡◌, ℕ, ◌≤◌, List, Option, All, length, min, reverse, take}
 use Rattle.trace_model.specs.Activations.{count_returned}
 use Rattle.call_tracker.specs.declared.missed.Missed.{Missed}

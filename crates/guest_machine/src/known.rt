@@ -53,7 +53,7 @@ fn learned_instruction(
     Ok(memory.known_instruction(*place, at))
 }
 
-// Carries out the instruction at the pc; none, and nothing changes, if it is ECALL or faults.
+/// Carries out the instruction at the pc; none, and nothing changes, if it is ECALL or faults.
 #[inline(always)]
 pub(crate) fn carry_out(
     cpu: &mut Cpu,
@@ -78,7 +78,7 @@ pub(crate) fn carry_out(
     }
 }
 
-// What `carry_out_reading` did.
+/// What `carry_out_reading` did.
 pub(crate) enum Reading {
     Went { advanced: Advanced },
     // It may write, and was not carried out.
@@ -87,8 +87,8 @@ pub(crate) enum Reading {
     Stops,
 }
 
-// Carries out the instruction at `pc`, which stands in place of that in `cpu`, if it can't write, is not ECALL and does not
-// fault; else nothing changes.
+/// Carries out the instruction at `pc`, which stands in place of that in `cpu`, if it can't write, is not ECALL and does not
+/// fault; else nothing changes.
 #[inline(always)]
 pub(crate) fn carry_out_reading(
     pc: &mut Cursor,
@@ -112,7 +112,7 @@ pub(crate) fn carry_out_reading(
     }
 }
 
-// Finds the instruction at the pc and carries it out; none, and nothing changes, if it is not found, is ECALL or faults.
+/// Finds the instruction at the pc and carries it out; none, and nothing changes, if it is not found, is ECALL or faults.
 #[inline(never)]
 pub(crate) fn carry_out_next(
     cpu: &mut Cpu,

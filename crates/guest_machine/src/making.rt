@@ -17,7 +17,7 @@ use rv_isa::{LoadKind, Reg, StoreKind};
 use std::alloc::AllocError;
 use trace_model::{Event, Observed, Observer};
 
-// What became of an instruction.
+/// What became of an instruction.
 #[derive(Clone, Copy)]
 pub(crate) enum Made {
     // It went, and the observer has taken it, with the steps before it.

@@ -48,7 +48,7 @@ pub fn find_word(first: Addr, code: &[Decoded], word: usize) -> Option<Decoded>
     Some(code[word])
 }
 
-// How many words an address lies behind the begin of a page, modulo 2 ^ 30.
+// How many words an address lies behind the beginning of a page, modulo 2 ^ 30.
 #[inline(always)]
 fn words_behind(first: Addr, at: Addr) -> usize
     requires even { at % 4 ≡ 0 }

@@ -246,3 +246,16 @@ module _ (most : ℕ) {K : Type 0} (Holds : K → List Event → List Done → T
     kept = subst (Holds kept (with_steps t n past)) (sym is) holds;
     steps_are = counted;
   }
+
+-- ---- An access, which goes on to the keeper before the profiler takes it.
+module _ (most : ℕ) {K : Type 0} (Holds : K → List Event → List Done → Type 0) (t n : ℕ) (old : KeptRun K) (past : List Event) (p : IsProfileOf most Holds old past)
+    (none : old.next ≡ None) where
+  -- `after` is what it is once the event went on
+  pub access_taken : (after : KeptRun K) (e : Event) (new : State) → after.stamps ≡ old.stamps →
+      ((past : List Event) (stamps : State) → IsSettled Holds old past → IsTaken most e (with_steps t n past) stamps [] [] →
+      IsProfileOf most Holds (record after { stamps = stamps }) (e ∷ with_steps t n past)) →
+      (StandsFor most after.stamps past → IsTaken most e (with_steps t n past) new [] []) →
+      IsProfileOf most Holds (record after { stamps = new }) (e ∷ with_steps t n past) × (is_within most (e ∷ with_steps t n past) ≡ true)
+  access_taken after e new same passes takes =
+      let taken = takes (subst (λ (s : State). StandsFor most s past) (sym same) p.stands) in
+      (passes past new (settled_of most Holds old past p none) taken, taken.fits)

@@ -35,9 +35,9 @@ pub struct Profile<S: Lanes, K: Keeper> {
 
 impl<S: Lanes, K: Keeper> Model for Profile<S, K> {
     ghost use Rattle.shadow_core.specs.Applying.{IsTaken};
-ghost use Rattle.shadow_core.specs.State.{State};
-ghost use Rattle.run_profile.specs.Private.Passing.{IsSettled, MayPass, ends_none};
-ghost use Rattle.run_profile.specs.Profile.{KeptRun};
+    ghost use Rattle.shadow_core.specs.State.{State};
+    ghost use Rattle.run_profile.specs.Private.Passing.{IsSettled, MayPass, ends_none};
+    ghost use Rattle.run_profile.specs.Profile.{KeptRun};
 
     ghost Value = { KeptRun K };
 
@@ -380,9 +380,9 @@ impl<S: Lanes, K: Keeper> Observer for Profile<S, K> {
     ghost use Rattle.trace_model.specs.Depth.{is_within};
     ghost use Rattle.trace_model.proofs.Cut.{steps_within, within_closed};
     ghost use Rattle.shadow_core.specs.Applying.{IsTaken};
-ghost use Rattle.shadow_core.specs.State.{State};
-ghost use Rattle.run_profile.specs.Private.Passing.{IsSettled, MayPass, ends_none};
-ghost use Rattle.run_profile.specs.Profile.{IsProfileOf};
+    ghost use Rattle.shadow_core.specs.State.{State};
+    ghost use Rattle.run_profile.specs.Private.Passing.{IsSettled, MayPass, ends_none};
+    ghost use Rattle.run_profile.specs.Profile.{IsProfileOf};
 
     ghost stands = { IsProfileOf S.MAX K.holds };
 

@@ -42,7 +42,7 @@ impl Counter for Addr {
     }
 }
 
-/// An address by the number of words from the begin of a page, so that a loop over decoded code counts no bytes.
+/// An address by the number of words from the beginning of a page, so that a loop over decoded code counts no bytes.
 #[derive(Drop)]
 pub struct Cursor {
     first: Addr,
@@ -62,7 +62,7 @@ impl Model for Cursor {
 impl Cursor {
     ghost use Rattle.std.specs.Prelude.{◌≡◌, ◌+◌, ◌*◌, ◌%◌, ◌^◌, IfSome};
 
-    /// An address, by the words from the begin of a page on: it may lie in another one.
+    /// An address, by the words from the beginning of a page on: it may lie in another page.
     #[inline(always)]
     pub fn new(first: Addr, at: Addr) -> Cursor
         requires first { first % 4096 ≡ 0 }
@@ -75,7 +75,7 @@ impl Cursor {
         }
     }
 
-    /// How many words it is behind the begin of a page, where it is counted from there.
+    /// How many words it is behind the beginning of a page, if it is counted from there.
     #[inline(always)]
     pub fn word_from(&self, first: Addr) -> Option<usize>
         ensures { IfSome result (λ word. self.now ≡ (first + 4 * word) % 2 ^ 32) }

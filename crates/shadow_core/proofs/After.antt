@@ -1,5 +1,5 @@
 -- Steps of the thread that made the last one, and an event after them.
-use Rattle.std.proofs.Common.{◌≡◌, ◌≤◌, ◌<◌, ◌+◌, ◌*◌, ◌^◌, ◌∙◌, ℕ, All, false, List, [], ◌∷◌, ◌++◌, Some, length, ap, arith, refl, subst, sym}
+use Rattle.std.proofs.Common.{◌≡◌, ◌≤◌, ◌<◌, ◌+◌, ◌*◌, ◌^◌, ◌∙◌, ℕ, All, false, List, [], ◌∷◌, Some, length, ap, arith, refl, subst, sym}
 use Rattle.std.specs.Prelude.{nat_lt}
 use Rattle.guest_words.specs.ByThread.{value_of}
 use Rattle.call_tracker.specs.ThreadCalls.{Calls, Counts}
@@ -20,6 +20,8 @@ use Rattle.stamp_table.specs.Allows.{is_too_deep}
 use Rattle.stamp_table.specs.Records.{finished, record_of}
 use Rattle.stamp_table.specs.Renewal.{bounded_tick}
 use Rattle.stamp_table.specs.Ticks.{table_after, table_after_steps}
+use Rattle.shadow_pages.specs.Pages.{HasPlace, Page, stamp_at}
+use Rattle.shadow_core.specs.Accesses.{IsAccessTo}
 use Rattle.shadow_core.specs.Applying.{IsTaken}
 use Rattle.shadow_core.specs.Private.Ending.{IsEnded}
 use Rattle.shadow_core.specs.Profiling.{StandsFor}
@@ -29,7 +31,7 @@ use Rattle.shadow_core.proofs.Applied.{deep_by_frames, frames_fit, taken}
 use Rattle.shadow_core.proofs.Begun.{begin_fits, called, goes_on, has_it}
 use Rattle.shadow_core.proofs.Ended.{MayEnd, may_end, may_pop, recorded, returned}
 use Rattle.shadow_core.proofs.Popped.{one_ended}
-use Rattle.shadow_core.proofs.Profiled.{IsAlive, alive_for_step, alive_here, lives_here}
+use Rattle.shadow_core.proofs.Profiled.{IsAlive, alive_for_step, alive_here}
 use Rattle.shadow_core.proofs.Stepped.{by_steps, may_step_once, steps_fit, steps_made, value_there}
 
 module _ (most t n : ℕ) (e : Event) (s : State) (may : MayTakeAfter (StandsFor most) (is_within most) s t n e) where
@@ -78,6 +80,13 @@ module _ (t n : ℕ) (s : State) (a : IsAlive s t) where
   as_many =
       let same = ap (λ (fs : List Frame). length fs) (its_frames s.live.threads t a.was a.has.stamps) in
       omega (arith, starts-with s.live.threads t a.was grown a.has.stamps, same)
+
+-- its access to a word is kept where it was
+pub access_then : (t n : ℕ) (s mid : State) → IsAlive s t → mid ≡ stepped t n s → (w place stamp : ℕ) → IsAccessTo s t w place stamp →
+    HasPlace (pages_of mid.live.threads t) w place × (stamp ≡ stamp_at (pages_of mid.live.threads t) w)
+access_then t n s mid a made w place stamp access =
+    let same : pages_of mid.live.threads t ≡ pages_of s.live.threads t = ap (λ (k : State). pages_of k.live.threads t) made ∙ pages_kept t n s a in
+    (subst (λ (pages : List Page). HasPlace pages w place) (sym same) access.here, access.own ∙ sym (ap (λ (pages : List Page). stamp_at pages w) same))
 
 -- ---- Where the thread made the last step.
 module _ (most t n : ℕ) (e : Event) (s : State) (may : MayTakeAfter (StandsFor most) (is_within most) s t n e) (some : 1 ≤ n) (runs : s.last ≡ Some t) where

@@ -1,4 +1,3 @@
-use Rattle.std.proofs.Common.{refl}
 use Rattle.std.proofs.lemmas.Result.{IfOk-weaker}
 use Rattle.trace_model.specs.Depth.{is_within}
 use Rattle.trace_model.proofs.Feeding.{observes_after}

@@ -28,7 +28,7 @@ returns-then-pass g c = record {
       let ends = c.in-Some.ended ∷ [] in
       let taken = subst (λ r. IsTaken g.S.Stamp.MAX (Ret r c.args.target) later new [] ends) (sym same) (c.in-Some.ensures.stands past p.stands) in (
         passed_after g.S.Stamp.MAX g.K.Keeper.holds c.args.tid c.args.count _ past own (Ret c.args.returner c.args.target) refl new ends taken c.pass.new.self c.self.inside.ended.items
-        (c.if-pass.ensures.passes later (c.take_steps.ensures past own.kept) taken.recorded),
+            (c.if-pass.ensures.passes later (c.take_steps.ensures past own.kept) taken.recorded),
         taken.fits,
       );
 }
@@ -45,8 +45,8 @@ returns-else-pass g c = record {
       let ends = c.in-Some.ended ∷ [] in
       let taken = subst (λ r. IsTaken g.S.Stamp.MAX (Ret r c.args.target) later new [] ends) (sym same) (c.in-Some.ensures.stands past p.stands) in (
         waits_after g.S.Stamp.MAX g.K.Keeper.holds c.args.tid c.args.count _ past own (Ret c.args.returner c.args.target) refl new ends taken c.pass.new.self c.keep_only.new.list.items
-        c.keep_only.ensures
-        (c.if-pass.ensures.passes later (c.take_steps.ensures past own.kept) taken.recorded),
+            c.keep_only.ensures
+            (c.if-pass.ensures.passes later (c.take_steps.ensures past own.kept) taken.recorded),
         taken.fits,
       );
 }

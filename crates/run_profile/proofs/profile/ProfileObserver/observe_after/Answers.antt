@@ -8,5 +8,5 @@ use Rattle.run_profile.proofs.profile.ProfileObserver.observe_after.Goals as goa
 pub returns-in-Ret-clause-observed : goal.returns-in-Ret-clause-observed
 returns-in-Ret-clause-observed g c =
     subst (λ e. IfOk c.observe_return.result
-        (ObservesAfter (IsProfileOf g.S.Stamp.MAX g.K.Keeper.holds) (is_within g.S.Stamp.MAX) c.args.tid c.args.count e c.args.self.now c.observe_return.new.self))
+    (ObservesAfter (IsProfileOf g.S.Stamp.MAX g.K.Keeper.holds) (is_within g.S.Stamp.MAX) c.args.tid c.args.count e c.args.self.now c.observe_return.new.self))
     (sym c.in-Ret.is) c.observe_return.ensures.observed

@@ -1,9 +1,6 @@
-use Rattle.std.proofs.Common.{[], ◌≡◌, ◌∙◌, ap, refl, subst, sym}
+use Rattle.std.proofs.Common.{[], refl}
 use Rattle.trace_model.specs.declared.event_kinds.Event.TheVariants.{Write}
-use Rattle.shadow_pages.specs.Pages.{HasPlace, stamp_at}
-use Rattle.stamp_renumber.specs.Threads.{pages_of}
-use Rattle.shadow_core.specs.State.{State}
-use Rattle.shadow_core.proofs.After.{alive_after, may_then, pages_kept, taken_after}
+use Rattle.shadow_core.proofs.After.{access_then, alive_after, may_then, taken_after}
 use Rattle.shadow_core.proofs.Applied.{deep_by_frames}
 use Rattle.shadow_core.proofs.profiler.Profiler.write_after.Goals as goal
 
@@ -13,19 +10,13 @@ write_known-requires-clause-may g c =
 
 pub write_known-requires-clause-place : goal.write_known-requires-clause-place
 write_known-requires-clause-place g c =
-    let t = c.args.tid in
-    let a = alive_after g.S.Stamp.MAX t c.args.steps (Write t c.args.w 1) c.args.self.now c.requires.may c.requires.some in
-    let same : pages_of c.steps_on.new.self.live.threads t ≡ pages_of c.args.self.now.live.threads t =
-    ap (λ (k : State). pages_of k.live.threads t) c.steps_on.ensures.state ∙ pages_kept t c.args.steps c.args.self.now a in
-    subst (λ pages. HasPlace pages c.args.w c.args.written.access.place) (sym same) c.requires.access.here
+    let a = alive_after g.S.Stamp.MAX c.args.tid c.args.steps (Write c.args.tid c.args.w 1) c.args.self.now c.requires.may c.requires.some in
+    (access_then c.args.tid c.args.steps c.args.self.now c.steps_on.new.self a c.steps_on.ensures.state c.args.w _ _ c.requires.access).0
 
 pub write_known-requires-clause-own : goal.write_known-requires-clause-own
 write_known-requires-clause-own g c =
-    let t = c.args.tid in
-    let a = alive_after g.S.Stamp.MAX t c.args.steps (Write t c.args.w 1) c.args.self.now c.requires.may c.requires.some in
-    let same : pages_of c.steps_on.new.self.live.threads t ≡ pages_of c.args.self.now.live.threads t =
-    ap (λ (k : State). pages_of k.live.threads t) c.steps_on.ensures.state ∙ pages_kept t c.args.steps c.args.self.now a in
-    c.requires.access.own ∙ sym (ap (λ pages. stamp_at pages c.args.w) same)
+    let a = alive_after g.S.Stamp.MAX c.args.tid c.args.steps (Write c.args.tid c.args.w 1) c.args.self.now c.requires.may c.requires.some in
+    (access_then c.args.tid c.args.steps c.args.self.now c.steps_on.new.self a c.steps_on.ensures.state c.args.w _ _ c.requires.access).1
 
 pub returns-clause-stands : goal.returns-clause-stands
 returns-clause-stands g c =
