@@ -434,7 +434,7 @@ fn count_next<W: Observer>(
     }
 }
 
-// Makes the next steps of a row: those within the page of code at the place, and one more.
+// Makes the next steps of a row: those within the page of code at the place, and one more if there are none or if it may write.
 #[inline(always)]
 fn run_further<W: Observer>(
     cpu: &mut Cpu,
@@ -456,6 +456,7 @@ fn run_further<W: Observer>(
         → row.old.told + row.old.plain < row.new.told + row.new.plain) }
     ensures same { W.fits observer.new ≡ W.fits observer.old }
 {
+    let before = row.told + row.plain;
     match run_page_at(cpu, memory, held, tid, *place, row, observer) {
         Ok(Paused::Done) => Ok(Further::Went),
         Ok(Paused::Refused) => Ok(Further::Refused),
@@ -485,10 +486,17 @@ fn run_further<W: Observer>(
                 count_next(row, tid, next, observer)
             }
         },
-        Ok(Paused::Elsewhere) => match carry_out_next(cpu, memory, held, tid, place) {
-            Ok(next) => count_next(row, tid, next, observer),
-            Err(e) => Err(e),
-        },
+        Ok(Paused::Elsewhere) => {
+            // it goes on in another page, whose code is mostly known
+            if row.told + row.plain > before {
+                *place = memory.code_place(cpu.pc);
+                return Ok(Further::Went);
+            }
+            match carry_out_next(cpu, memory, held, tid, place) {
+                Ok(next) => count_next(row, tid, next, observer),
+                Err(e) => Err(e),
+            }
+        }
         Err(e) => Err(e),
     }
 }

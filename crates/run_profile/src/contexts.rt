@@ -68,6 +68,8 @@ impl Keeper for Contexts {
 
     ghost is_too_much = { IsPastNumbers };
 
+    const PASSES: bool = false;
+
     // The tree takes each event when the next one comes.
     #[inline(always)]
     fn pass(&mut self, e: &Event, ends: &[Done]) -> bool {

@@ -20,6 +20,9 @@ pub trait Keeper: Drop {
     /// A past that is too much for it: it keeps nothing of that.
     ghost is_too_much: { List Event → Type 0 };
 
+    /// Whether it mostly takes an event at once. Where it doesn't, the profile goes no quicker way for such events.
+    const PASSES: bool;
+
     /// Takes the event, with what ended at it, and answers `true` if that needs no memory. Otherwise the event is left for `take`,
     /// with all that ended.
     fn pass(&mut self, e: &Event, ends: &[Done]) -> bool

@@ -420,9 +420,13 @@ impl<S: Lanes, K: Keeper> Observer for Profile<S, K> {
         }
     }
 
-    // Each kind of event that most programs have most has a function of its own.
+    // Each kind of event that most programs have most has a function of its own, where the keeper mostly takes an event at once.
     #[inline(always)]
     fn observe_after(&mut self, tid: Tid, count: u64, e: Event) -> Result<Observed, AllocError> {
+        if !K::PASSES {
+            self.observe_steps(tid, count)?;
+            return self.observe(e);
+        }
         match e {
             Event::Read {
                 tid: reader,

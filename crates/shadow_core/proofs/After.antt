@@ -20,7 +20,7 @@ use Rattle.stamp_table.specs.Allows.{is_too_deep}
 use Rattle.stamp_table.specs.Records.{finished, record_of}
 use Rattle.stamp_table.specs.Renewal.{bounded_tick}
 use Rattle.stamp_table.specs.Ticks.{table_after, table_after_steps}
-use Rattle.shadow_pages.specs.Pages.{HasPlace, Page, stamp_at}
+use Rattle.shadow_pages.specs.Pages.{HasPlace, Page, covers, stamp_at}
 use Rattle.shadow_core.specs.Accesses.{IsAccessTo}
 use Rattle.shadow_core.specs.Applying.{IsTaken}
 use Rattle.shadow_core.specs.Private.Ending.{IsEnded}
@@ -31,7 +31,8 @@ use Rattle.shadow_core.proofs.Applied.{deep_by_frames, frames_fit, taken}
 use Rattle.shadow_core.proofs.Begun.{begin_fits, called, goes_on, has_it}
 use Rattle.shadow_core.proofs.Ended.{MayEnd, may_end, may_pop, recorded, returned}
 use Rattle.shadow_core.proofs.Popped.{one_ended}
-use Rattle.shadow_core.proofs.Profiled.{IsAlive, alive_for_step, alive_here}
+use Rattle.shadow_core.proofs.Profiled.{IsAlive, alive_for_step, alive_here, lives_here}
+use Rattle.shadow_core.proofs.SamePages.{calls_alike, with_alike}
 use Rattle.shadow_core.proofs.Stepped.{by_steps, may_step_once, steps_fit, steps_made, value_there}
 
 module _ (most t n : ℕ) (e : Event) (s : State) (may : MayTakeAfter (StandsFor most) (is_within most) s t n e) where
@@ -180,3 +181,10 @@ module _ (most t n target : ℕ) (s : State) (may : MayTakeAfter (StandsFor most
     pub few_found : (ended.counts.thread < 2 ^ 62) × (ended.counts.kernel < 2 ^ 62)
     few_found =
         (omega (arith, may_end_one.can.thread, ap (λ (k : Counts). k.thread) one.1.counted), omega (arith, may_end_one.can.kernel, ap (λ (k : Counts). k.kernel) one.1.counted))
+
+    -- and the pages of all threads hold the same words
+    pub return_pages : (u w : ℕ) → covers (pages_of live.threads u) w ≡ covers (pages_of s.live.threads u) w
+    return_pages u w =
+        ap (λ xs. covers (pages_of xs u) w) one.1.threads
+        ∙ with_alike mid-2.live.threads t _ may_end_one.can.lives (λ v. refl) u w
+        ∙ calls_alike s.live mid-2.live t (steps_added n (calls_of s.live.threads t)) (lives_here s t there-2) refl u w

@@ -18,7 +18,7 @@ pub mod Repeated
 pub mod Begun
 pub mod Started
 pub mod Stepped
-pub mod After
 pub mod Popped
 pub mod Ended
 pub mod SamePages
+pub mod After

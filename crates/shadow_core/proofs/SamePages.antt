@@ -72,3 +72,11 @@ advanced_alike most ticks old new advanced t w = found (value_of old.live.thread
 -- the state before, as it is viewed
 pub seen_same : {old was new : State} → old ≡ was → HasSamePages old new → HasSamePages was new
 seen_same {new = new} is same = subst (λ (k : State). HasSamePages k new) is same
+
+-- two events, one after the other
+pub same_twice : {old mid new : State} → HasSamePages old mid → HasSamePages mid new → HasSamePages old new
+same_twice first then = record {
+  writes = λ w. then.writes w ∙ first.writes w;
+  marks = λ w. then.marks w ∙ first.marks w;
+  accesses = λ t w. then.accesses t w ∙ first.accesses t w;
+}

@@ -181,7 +181,7 @@ impl<S: Lanes> Profiler<S> {
     }
 
     /// Takes `steps` steps of the thread that made the last one, and then its read of a word, whose access `word_read` gave. It
-    /// does not allocate.
+    /// does not allocate, and adds no page of stamps.
     #[inline(always)]
     pub fn read_after(&mut self, tid: Tid, steps: u64, w: Word, access: Access<S>)
         requires may { MayTakeAfter (StandsFor S.MAX) (is_within S.MAX) self.old tid steps (Read tid w 1) }
@@ -191,6 +191,7 @@ impl<S: Lanes> Profiler<S> {
             (table_after_steps (bounded_tick S.MAX) tid steps (table_of_state self.old)) }
         ensures stands { (past : List Event) → StandsFor S.MAX self.old past
             → IsTaken S.MAX (Read tid w 1) (with_steps tid steps past) self.new [] [] }
+        ensures pages { HasSamePages self.old self.new }
     {
         self.steps_on(tid, steps);
         self.read_known(tid, w, access);
@@ -213,7 +214,7 @@ impl<S: Lanes> Profiler<S> {
     }
 
     /// Takes `steps` steps of the thread that made the last one, and then its write of a word, of which `word_written` gave where
-    /// its stamps are. It does not allocate.
+    /// its stamps are. It does not allocate, and adds no page of stamps.
     #[inline(always)]
     pub fn write_after(&mut self, tid: Tid, steps: u64, w: Word, written: Written<S>)
         requires may { MayTakeAfter (StandsFor S.MAX) (is_within S.MAX) self.old tid steps (Write tid w 1) }
@@ -224,6 +225,7 @@ impl<S: Lanes> Profiler<S> {
             (table_after_steps (bounded_tick S.MAX) tid steps (table_of_state self.old)) }
         ensures stands { (past : List Event) → StandsFor S.MAX self.old past
             → IsTaken S.MAX (Write tid w 1) (with_steps tid steps past) self.new [] [] }
+        ensures pages { HasSamePages self.old self.new }
     {
         self.steps_on(tid, steps);
         self.write_known(tid, w, written.access, written.latest);
@@ -274,6 +276,7 @@ impl<S: Lanes> Profiler<S> {
         ensures others { self.old.last ≡ Some tid → IfNone result ((count_returned target
             (map (λ (c : CountedCall). c.back) (calls_of self.old.live.threads tid).list) == 1) ≡ false) }
         ensures same { IfNone result (self.new ≡ self.old) }
+        ensures pages { HasSamePages self.old self.new }
     {
         if !is_running(self.last, tid) {
             return None;

@@ -53,6 +53,28 @@ count_next-requires-clause-range g c =
     let run = goes r.first r.old r.most r.run in
     omega (arith, run.room, r.run.room, c.requires.range)
 
+pub overflow_add-row : goal.overflow_add-row
+overflow_add-row g c =
+    let old = c.args.observer.now in
+    let tid = c.args.tid in
+    let begun = exec_state_of c.args.cpu.now c.args.memory.now c.args.held.now in
+    let here = exec_state_of c.run_page_at.new.cpu c.args.memory.now c.args.held.now in
+    let page = c.in-Ok-Elsewhere.is ∙ ap (λ (p : Paused). Ok p) c.in-Ok-Elsewhere.field-0-is in
+    let goes = subst (λ r. RunsOn g.W.Observer.stands (g.W.Observer.fits old) tid c.args.row.now begun old c.run_page_at.new.row here c.run_page_at.new.observer (answer_of r)) page c.run_page_at.ensures.runs in
+    let r = c.requires.run in
+    let run = goes r.first r.old r.most r.run in
+    omega (arith, run.room, run.within, r.run.room, c.requires.range)
+
+pub returns-then-row-before-clause-runs : goal.returns-then-row-before-clause-runs
+returns-then-row-before-clause-runs g c =
+    let old = c.args.observer.now in
+    let tid = c.args.tid in
+    let begun = exec_state_of c.args.cpu.now c.args.memory.now c.args.held.now in
+    let here = exec_state_of c.run_page_at.new.cpu c.args.memory.now c.args.held.now in
+    let page = c.in-Ok-Elsewhere.is ∙ ap (λ (p : Paused). Ok p) c.in-Ok-Elsewhere.field-0-is in
+    let goes = subst (λ r. RunsOn g.W.Observer.stands (g.W.Observer.fits old) tid c.args.row.now begun old c.run_page_at.new.row here c.run_page_at.new.observer (answer_of r)) page c.run_page_at.ensures.runs in
+    goes
+
 pub carry_out_next-requires : goal.carry_out_next-requires
 carry_out_next-requires g c =
     let old = c.args.observer.now in

@@ -2,6 +2,7 @@ use Rattle.std.proofs.Common.{[], refl}
 use Rattle.trace_model.specs.declared.event_kinds.Event.TheVariants.{Read}
 use Rattle.shadow_core.proofs.After.{access_then, alive_after, may_then, taken_after}
 use Rattle.shadow_core.proofs.Applied.{deep_by_frames}
+use Rattle.shadow_core.proofs.SamePages.{same_twice}
 use Rattle.shadow_core.proofs.profiler.Profiler.read_after.Goals as goal
 
 pub read_known-requires-clause-may : goal.read_known-requires-clause-may
@@ -23,3 +24,6 @@ returns-clause-stands g c =
     let e = Read c.args.tid c.args.w 1 in
     taken_after g.S.Stamp.MAX c.args.tid c.args.steps e c.args.self.now c.requires.may c.steps_on.new.self c.steps_on.ensures.table
     c.read_known.new.self [] (deep_by_frames g.S.Stamp.MAX e c.steps_on.new.self) c.read_known.ensures.table refl
+
+pub returns-clause-pages : goal.returns-clause-pages
+returns-clause-pages g c = same_twice c.steps_on.ensures.pages c.read_known.ensures.pages
