@@ -234,7 +234,7 @@ fn plain_auipc<P: Counter>(pc: &mut P, cpu: &mut Cpu, rd: Reg, imm: u32) -> bool
 }
 
 // A branch.
-#[inline(always)]
+#[inline]
 fn plain_branch<P: Counter>(
     pc: &mut P,
     cpu: &Cpu,
@@ -252,7 +252,7 @@ fn plain_branch<P: Counter>(
 }
 
 // An operation on a register and an immediate.
-#[inline(always)]
+#[inline]
 fn plain_immediate<P: Counter>(
     pc: &mut P,
     cpu: &mut Cpu,
@@ -270,7 +270,7 @@ fn plain_immediate<P: Counter>(
 }
 
 // An operation on two registers.
-#[inline(always)]
+#[inline]
 fn plain_register<P: Counter>(
     pc: &mut P,
     cpu: &mut Cpu,
