@@ -200,7 +200,7 @@ impl<S: Lanes, K: Keeper> Profile<S, K> {
     }
 
     // Takes steps of a thread and its read. Mostly it is of one word, the keeper has taken all, and the page of the word is there.
-    #[inline(always)]
+    #[inline]
     fn observe_read(
         &mut self,
         tid: Tid,
@@ -238,7 +238,7 @@ impl<S: Lanes, K: Keeper> Profile<S, K> {
     }
 
     // Takes steps of a thread and its write.
-    #[inline(always)]
+    #[inline]
     fn observe_write(
         &mut self,
         tid: Tid,
@@ -276,7 +276,7 @@ impl<S: Lanes, K: Keeper> Profile<S, K> {
     }
 
     // Takes steps of a thread and its call.
-    #[inline(always)]
+    #[inline]
     fn observe_call(
         &mut self,
         tid: Tid,
@@ -308,7 +308,7 @@ impl<S: Lanes, K: Keeper> Profile<S, K> {
     }
 
     // Takes steps of a thread and its return. Mostly it ends one activation, whose record then need not go through the list.
-    #[inline(always)]
+    #[inline]
     fn observe_return(
         &mut self,
         tid: Tid,
@@ -424,8 +424,7 @@ impl<S: Lanes, K: Keeper> Observer for Profile<S, K> {
     #[inline(always)]
     fn observe_after(&mut self, tid: Tid, count: u64, e: Event) -> Result<Observed, AllocError> {
         if !K::PASSES {
-            self.observe_steps(tid, count)?;
-            return self.observe(e);
+            return self.observe_both(tid, count, e);
         }
         match e {
             Event::Read {
