@@ -7,6 +7,18 @@ use std::marker::Model;
 /// A byte address of the guest.
 pub type Addr = u32;
 
+/// How many bytes a page of the guest's memory has.
+pub const PAGE_SIZE: u32 = 4096;
+
+/// How many words a page has.
+pub const PAGE_WORDS: usize = 1024;
+
+/// How many words the guest's memory has: 2^32 bytes.
+pub const MEMORY_WORDS: u32 = 1 << 30;
+
+/// Where the mappings that a guest asks for begin. Segments, and the program break, stay below.
+pub const MMAP_BASE: Addr = 0x4000_0000;
+
 /// The number of an aligned 32-bit word of guest memory, below 2^30: its first byte stands at four times the number.
 #[derive(Clone, Copy, Debug, PartialEq, Eq, PartialOrd, Ord)]
 pub struct Word(u32);

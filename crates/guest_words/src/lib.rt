@@ -14,11 +14,11 @@ mod rights;
 mod text_words;
 mod threads;
 
-pub use addresses::{Addr, Word, words_over};
+pub use addresses::{Addr, MEMORY_WORDS, MMAP_BASE, PAGE_SIZE, PAGE_WORDS, Word, words_over};
 pub use by_thread::ByThread;
 pub use endings::{FaultKind, Finish};
 pub use fields::{le16, le32, put_le32};
-pub use name::{Name, NameError};
+pub use name::{Name, NameError, are_visible};
 pub use ready::ReadyList;
 pub use rights::Rights;
 pub use text_words::{cut, decimal_number, first_number, push_decimal, wide_decimal_number};

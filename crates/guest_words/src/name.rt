@@ -54,8 +54,8 @@ fn is_dash(bytes: &[u8]) -> bool
     bytes.len() == 1 && bytes[0] == b'-'
 }
 
-// Whether each byte is visible.
-fn is_visible_text(bytes: &[u8]) -> bool
+/// Whether each byte is visible, as those of a name are.
+pub fn are_visible(bytes: &[u8]) -> bool
     ensures { result ≡ list_all is_visible bytes.now }
 {
     bytes.iter().all(|b| 0x21 <= *b && *b <= 0x7e)
@@ -66,7 +66,7 @@ fn is_visible_text(bytes: &[u8]) -> bool
 fn is_name(bytes: &[u8]) -> bool
     ensures { result ≡ is_name bytes.now }
 {
-    !is_dash(bytes) && !bytes.is_empty() && bytes.len() <= NAME_BYTES && is_visible_text(bytes)
+    !is_dash(bytes) && !bytes.is_empty() && bytes.len() <= NAME_BYTES && are_visible(bytes)
 }
 
 impl Name {
