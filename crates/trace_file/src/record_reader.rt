@@ -16,7 +16,7 @@ ghost use Rattle.std.specs.List.{flat_map, list_all};
 
 use crate::records::{Form, Range, Record};
 use guest_words::limits::{LAST_TID, NAME_BYTES};
-use guest_words::{Addr, FaultKind, Finish, Name, NameError, Tid, Word};
+use guest_words::{Addr, FaultKind, Finish, MEMORY_WORDS, Name, NameError, Tid, Word, are_visible};
 use std::alloc::Global;
 use trace_model::Event;
 
@@ -38,7 +38,7 @@ const THREAD: Range = Range {
 
 const WORD: Range = Range {
     least: 0,
-    most: (1 << 30) - 1,
+    most: MEMORY_WORDS - 1,
 };
 
 const FREE: Range = Range {
@@ -330,13 +330,6 @@ fn made(form: Form, a: u32, b: u32, c: u32) -> Option<Record>
             None => None,
         },
     }
-}
-
-// Whether each byte can stand in a name.
-fn are_visible(bytes: &[u8]) -> bool
-    ensures { result ≡ list_all is_visible bytes.now }
-{
-    bytes.iter().all(|b| 0x21 <= *b && *b <= 0x7e)
 }
 
 // The bytes behind the first `seen`.

@@ -8,7 +8,7 @@ ghost use Rattle.trace_model.specs.Observing.{with_steps};
 ghost use Rattle.trace_order.specs.Progress.{Allows, IsAllowed, IsProgressOf, is_of_one, passed, passed_steps};
 
 use guest_words::limits::TRACE_WEIGHT;
-use guest_words::{Tid, Word};
+use guest_words::{MEMORY_WORDS, Tid, Word};
 use std::marker::Model;
 use trace_model::Event;
 
@@ -53,7 +53,7 @@ pub fn thread_of(e: &Event) -> Option<Tid>
 fn are_words(first: Word, count: u32) -> bool
     ensures { IsTrue result ↔ AreWords first count }
 {
-    1 <= count && count <= (1 << 30) - first.number()
+    1 <= count && count <= MEMORY_WORDS - first.number()
 }
 
 // One for the event, and one for each word that it reads.
