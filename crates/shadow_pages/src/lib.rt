@@ -5,4 +5,5 @@
 mod directory;
 mod shadow;
 
-pub use shadow::{PAGE_WORDS, Shadow};
+pub use guest_words::PAGE_WORDS;
+pub use shadow::Shadow;

@@ -5,13 +5,10 @@ ghost use Rattle.shadow_pages.specs.Directory.{HasTable};
 ghost use Rattle.shadow_pages.specs.Pages.{AreCovered, AreDistinct, AreFresh, HasPlace, HasWord, HaveAll, IsFull, IsIndexed, IsLow, IsReserved, changed, covers, in_range, page_at, page_of, stamp_at, zeros};
 
 use crate::directory::Directory;
-use guest_words::Word;
+use guest_words::{PAGE_WORDS, Word};
 use stamps::Stamp;
 use std::alloc::{AllocError, Global};
 use std::marker::Model;
-
-/// How many words a page has.
-pub const PAGE_WORDS: usize = 1024;
 
 // A page.
 #[derive(Drop)]
@@ -200,7 +197,7 @@ impl<S: Stamp> Shadow<S> {
     {
         let start = number << 10;
         let from = first.number().max(start) - start;
-        let to = (first.number() + count).min(start + 1024) - start;
+        let to = (first.number() + count).min(start + PAGE_WORDS as u32) - start;
         let row = self.page_of_mut(Word::of(number << 12));
         fill_row(row, from as usize, to as usize, s);
     }
