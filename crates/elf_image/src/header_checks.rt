@@ -5,7 +5,7 @@ ghost use Rattle.elf_image.specs.Tests.{first_of, format_tests, header_tests, ki
 ghost use Rattle.elf_image.specs.Private.Checks.{unless_refused};
 
 use crate::ElfError;
-use crate::headers::FileHeader;
+use crate::headers::{FileHeader, PROGRAM_HEADER_SIZE};
 
 // The tests of the first 16 bytes and of the version.
 fn check_format(file: &[u8], header: &FileHeader) -> Result<(), ElfError>
@@ -50,10 +50,12 @@ fn check_table(file: &[u8], header: &FileHeader) -> Result<(), ElfError>
     requires { header.now ≡ file_header file.now }
     ensures { result ≡ unless_refused (first_of (table_tests file.now)) }
 {
-    if header.e_ehsize != 52 || (header.e_phnum != 0 && header.e_phentsize != 32) {
+    if header.e_ehsize != 52
+        || (header.e_phnum != 0 && header.e_phentsize as usize != PROGRAM_HEADER_SIZE)
+    {
         return Err(ElfError::HeaderSize);
     }
-    let end = header.e_phoff as usize + 32 * header.e_phnum as usize;
+    let end = header.e_phoff as usize + PROGRAM_HEADER_SIZE * header.e_phnum as usize;
     if header.e_phnum == 0xffff || end > file.len() {
         return Err(ElfError::HeaderTable);
     }

@@ -62,6 +62,9 @@ impl FileHeader {
     }
 }
 
+/// How many bytes a program header has.
+pub const PROGRAM_HEADER_SIZE: usize = 32;
+
 /// A program header (Elf32_Phdr), but for p_paddr and p_align.
 #[derive(Clone, Copy)]
 pub(crate) struct ProgramHeader {

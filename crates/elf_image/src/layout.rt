@@ -9,11 +9,8 @@ ghost use Rattle.elf_image.specs.Segments.{occupied_headers, segments_of};
 ghost use Rattle.elf_image.specs.Tests.{fails_entry, fails_overlap};
 
 use crate::headers::ProgramHeader;
-use guest_words::Addr;
+use guest_words::{Addr, PAGE_SIZE};
 use std::alloc::{AllocError, Global};
-
-// How many bytes a page has.
-const PAGE_SIZE: u32 = 4096;
 
 /// The same segments by rising place.
 pub(crate) fn by_place(

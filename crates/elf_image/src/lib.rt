@@ -17,5 +17,6 @@ mod symbol_names;
 mod symbols;
 
 pub use error::ElfError;
+pub use headers::PROGRAM_HEADER_SIZE;
 pub use image::{Image, Segment};
 pub use reader::read_image;

@@ -8,9 +8,9 @@ ghost use Rattle.elf_image.specs.Tests.{file_part_tests, first_of, place_tests, 
 ghost use Rattle.elf_image.specs.Private.Checks.{unless_refused};
 ghost use Rattle.elf_image.specs.declared.error.ElfError.TheVariants as error;
 
-use crate::headers::{FileHeader, ProgramHeader};
+use crate::headers::{FileHeader, PROGRAM_HEADER_SIZE, ProgramHeader};
 use crate::{ElfError, Segment};
-use guest_words::{Addr, Rights};
+use guest_words::{Addr, MMAP_BASE, Rights};
 use std::alloc::{AllocError, Global};
 
 // The type of a load segment.
@@ -21,9 +21,6 @@ const PT_INTERP: u32 = 3;
 
 // The least address of a segment.
 const LOWEST_ADDRESS: u32 = 0x1000;
-
-// The end of the part of memory that is for segments.
-const END_OF_SEGMENTS: u64 = 0x4000_0000;
 
 // All program headers.
 fn program_headers(
@@ -39,7 +36,7 @@ fn program_headers(
     let count = header.e_phnum as usize;
     let mut headers = Vec::with_capacity(alloc, count)?;
     for i in 0..count {
-        headers.push(ProgramHeader::at(file, first + 32 * i))?;
+        headers.push(ProgramHeader::at(file, first + PROGRAM_HEADER_SIZE * i))?;
     }
     Ok(headers)
 }
@@ -85,7 +82,7 @@ fn is_misplaced(headers: &[ProgramHeader]) -> bool
         || nat_lt 0x40000000 (h.p_vaddr + h.p_memsz)) headers.now }
 {
     headers.iter().any(|h| h.p_vaddr < LOWEST_ADDRESS
-        || h.p_vaddr as u64 + h.p_memsz as u64 > END_OF_SEGMENTS)
+        || h.p_vaddr as u64 + h.p_memsz as u64 > MMAP_BASE as u64)
 }
 
 // The tests of the types of segments.
@@ -198,7 +195,7 @@ pub(crate) fn header_place(file: &[u8], header: &FileHeader, headers: &[ProgramH
     ensures value { result ≡ header_place file.now }
     ensures range { result < 2 ^ 32 }
 {
-    let end = header.e_phoff as u64 + 32 * header.e_phnum as u64;
+    let end = header.e_phoff as u64 + PROGRAM_HEADER_SIZE as u64 * header.e_phnum as u64;
     for h in headers {
         if h.p_offset <= header.e_phoff && end <= h.p_offset as u64 + h.p_filesz as u64 {
             return h.p_vaddr + (header.e_phoff - h.p_offset);
