@@ -14,7 +14,7 @@ use std::marker::Model;
 pub const TABLE_ENTRIES: usize = 1024;
 
 /// How many bytes a page has.
-pub const PAGE_SIZE: usize = 4096;
+pub const PAGE_SIZE: usize = guest_words::PAGE_SIZE as usize;
 
 // A page: no bytes where it is absent.
 #[derive(Drop)]

@@ -18,12 +18,12 @@ use crate::directory::{Directory, PAGE_SIZE, TABLE_ENTRIES};
 use crate::page_ranges::zero_pages;
 use crate::refusal::{MemError, Permission};
 use guest_words::limits::PAGES;
-use guest_words::{Addr, Rights};
+use guest_words::{Addr, MMAP_BASE, Rights};
 use rv_isa::Instr;
 use std::alloc::{AllocError, Global};
 
 // The pages in which a free range is searched.
-const FIRST_OF_SEARCH: u32 = 0x40000;
+const FIRST_OF_SEARCH: u32 = MMAP_BASE / guest_words::PAGE_SIZE;
 
 const END_OF_SEARCH: u32 = 0x7F000;
 
