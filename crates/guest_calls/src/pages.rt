@@ -11,14 +11,9 @@ ghost use Rattle.guest_calls.specs.Pages as specs;
 use crate::caller::Caller;
 use guest_kernel::{Answer, EINVAL, ENOMEM, ENOSYS, State};
 use guest_memory::GuestMemory;
-use guest_words::Rights;
 use guest_words::limits::PAGES;
+use guest_words::{MMAP_BASE, PAGE_SIZE, Rights};
 use std::alloc::AllocError;
-
-const PAGE_SIZE: u32 = 4096;
-
-// The break cannot pass this.
-const BREAK_LIMIT: u32 = 0x4000_0000;
 
 // The bits of the flags that hold the type of a mapping.
 const MAP_TYPE: u32 = 0xF;
@@ -193,7 +188,7 @@ pub(crate) fn brk(
     if at < state.first_break() {
         return Ok(Answer::Back { value: old });
     }
-    if at > BREAK_LIMIT {
+    if at > MMAP_BASE {
         return Ok(Answer::Back { value: old });
     }
     let (old_end, end) = (pages(old), pages(at));
