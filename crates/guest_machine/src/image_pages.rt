@@ -9,12 +9,12 @@ ghost use Rattle.guest_machine.specs.Private.Setup.{AreRights, mapped_below, pag
 
 use elf_image::Segment;
 use guest_memory::{GuestMemory, MemError};
-use guest_words::Rights;
 use guest_words::limits::PAGES;
+use guest_words::{MMAP_BASE, PAGE_SIZE, Rights};
 use std::alloc::{AllocError, Global};
 
 /// Segments lie below this page.
-pub const IMAGE_PAGES: usize = 0x40000;
+pub const IMAGE_PAGES: usize = (MMAP_BASE / PAGE_SIZE) as usize;
 
 // What a page allows, with one segment more; what can be written can be read.
 fn joined(page: Option<Rights>, segment: Rights) -> Rights
@@ -41,8 +41,8 @@ fn add_segment(table: &mut Vec<Option<Rights>>, segment: &Segment)
         → slice_index_or table.new.items page None
         ≡ with_segment page (slice_index_or table.old.items page None) segment.now }
 {
-    let first = segment.place / 4096;
-    let end = (segment.place + (segment.size - 1)) / 4096 + 1;
+    let first = segment.place / PAGE_SIZE;
+    let end = (segment.place + (segment.size - 1)) / PAGE_SIZE + 1;
     for page in first..end {
         table[page as usize] = Some(joined(table[page as usize], segment.rights));
     }

@@ -12,7 +12,7 @@ use elf_image::Image;
 use guest_kernel::{Inputs, Kernel};
 use guest_memory::Reservations;
 use guest_words::limits::{PAGES, STACK_PAGES, THREADS};
-use guest_words::{Addr, ByThread, Tid};
+use guest_words::{Addr, ByThread, PAGE_SIZE, Tid};
 use rv_exec::Cpu;
 use rv_isa::Reg;
 use std::alloc::{AllocError, Global};
@@ -80,7 +80,7 @@ pub(crate) fn first_machine(
 {
     let first = RANDOM_ADDRESS - text_bytes;
     let pointer = stack_pointer(first, arguments.len());
-    let first_break = greatest_end(image.segments()).next_multiple_of(4096);
+    let first_break = greatest_end(image.segments()).next_multiple_of(PAGE_SIZE);
     let memory = start_memory(alloc, image, arguments, first, pointer)?;
     let kernel = Kernel::new(alloc, inputs, stdin, first_break)?;
     let mut harts = ByThread::new(alloc);

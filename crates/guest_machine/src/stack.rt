@@ -4,8 +4,8 @@ ghost use Rattle.std.specs.Int.{w32, to_le_bytes};
 ghost use Rattle.guest_machine.specs.Private.Setup.{limited_length};
 ghost use Rattle.guest_machine.specs.Start.{string_addresses, strings, stack_words, strings_address, random_bytes};
 
-use elf_image::Image;
-use guest_words::Addr;
+use elf_image::{Image, PROGRAM_HEADER_SIZE};
+use guest_words::{Addr, PAGE_SIZE};
 use std::alloc::{AllocError, Global};
 
 /// The most bytes of the argument strings, each with its zero byte.
@@ -117,11 +117,11 @@ pub(crate) fn word_bytes(
         AT_PHDR,
         image.header_place(),
         AT_PHENT,
-        32,
+        PROGRAM_HEADER_SIZE as u32,
         AT_PHNUM,
         image.header_count(),
         AT_PAGESZ,
-        4096,
+        PAGE_SIZE,
         AT_ENTRY,
         image.entry(),
         AT_RANDOM,
