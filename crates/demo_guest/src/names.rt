@@ -7,11 +7,8 @@ ghost use Rattle.rv_asm.specs.declared.limits.TheConstants.{PROGRAM_LINES};
 
 use guest_words::limits::DEMO_ROUTINES;
 use guest_words::{Name, NameError, push_decimal};
-use rv_asm::Symbol;
+use rv_asm::{ENTRY, Symbol};
 use std::alloc::{AllocError, Global};
-
-// The address of the first word of the code.
-const ENTRY: u32 = 0x1_0054;
 
 // The symbol of a word, whose name these bytes are.
 fn named(alloc: Global, name: &[u8], word: u32) -> Result<Symbol, AllocError>

@@ -24,8 +24,8 @@ const IDENT: [u8; 16] = [0x7f, 0x45, 0x4c, 0x46, 1, 1, 1, 0, 0, 0, 0, 0, 0, 0, 0
 // The address where the file's first byte is loaded.
 const ADDRESS: u32 = 0x1_0000;
 
-// The address of the first word of code, where the program begins to run.
-const ENTRY: u32 = 0x1_0054;
+/// The address of the first word of code, where the program begins to run.
+pub const ENTRY: Addr = 0x1_0054;
 
 // The size of the file header and the program header.
 const HEADERS: u32 = 84;

@@ -15,5 +15,5 @@ mod symbols;
 
 pub use builder::{Builder, Code, Label};
 pub use error::AsmError;
-pub use executable::{Symbol, write_exec};
+pub use executable::{ENTRY, Symbol, write_exec};
 pub use limits::PROGRAM_LINES;
