@@ -3,6 +3,7 @@ ghost use Rattle.std.specs.Prelude.{◌≡◌, true, [], ◌∷◌, ◌++◌, is
 ghost use Rattle.profile_report.specs.Grammar.{closed, count_of, has_points, is_above, last_entry, last_size, may_stand, next, rises};
 ghost use Rattle.profile_report.specs.Fits.{is_of_version};
 ghost use Rattle.profile_report.specs.Reading.{has_begun};
+ghost use Rattle.profile_report.specs.declared.parse_state.ParseState.TheVariants.{AtRoutines};
 
 use crate::line::Line;
 use crate::{Report, ReportVersion, Routine};
@@ -182,6 +183,30 @@ fn with_point(mut routine: Routine, point: Point) -> Result<Routine, AllocError>
     Ok(routine)
 }
 
+// The state behind a line that may come where routines do.
+fn next_of_routines(
+    alloc: Global,
+    report: Report,
+    begun: Option<Routine>,
+    line: Line,
+) -> Result<ParseState, AllocError>
+    ensures ok { IfOk result (λ p. p ≡ next (AtRoutines report begun) line) }
+    ensures err { IfErr result (λ _. is_some begun ≡ true) }
+{
+    match line {
+        Line::OfRoutine(entry, name) => {
+            let report = closed(report, begun)?;
+            Ok(ParseState::AtRoutines(report, Some(without_points(alloc, entry, name))))
+        }
+        Line::OfPoint(point) => match begun {
+            Some(routine) => Ok(ParseState::AtRoutines(report, Some(with_point(routine, point)?))),
+            None => Ok(ParseState::AtRoutines(report, None)),
+        },
+        Line::Done(_) => Ok(ParseState::Over(closed(report, begun)?)),
+        _ => Ok(ParseState::AtRoutines(report, begun)),
+    }
+}
+
 /// The state behind a line that may come in this one.
 pub fn next(alloc: Global, state: ParseState, line: Line) -> Result<ParseState, AllocError>
     ensures ok { IfOk result (λ p. p ≡ next state line) }
@@ -199,17 +224,9 @@ pub fn next(alloc: Global, state: ParseState, line: Line) -> Result<ParseState, 
             let report = without_routines(alloc, version, finish, steps, pending);
             Ok(ParseState::AtRoutines(report, None))
         }
-        (ParseState::AtRoutines(report, begun), Line::OfRoutine(entry, name)) => {
-            let report = closed(report, begun)?;
-            Ok(ParseState::AtRoutines(report, Some(without_points(alloc, entry, name))))
+        (ParseState::AtRoutines(report, begun), line) => {
+            next_of_routines(alloc, report, begun, line)
         }
-        (ParseState::AtRoutines(report, begun), Line::OfPoint(point)) => match begun {
-            Some(routine) => Ok(ParseState::AtRoutines(report, Some(with_point(routine, point)?))),
-            None => Ok(ParseState::AtRoutines(report, None)),
-        },
-        (ParseState::AtRoutines(report, begun), Line::Done(_)) => Ok(ParseState::Over(closed(
-            report, begun,
-        )?)),
         (state, _) => Ok(state),
     }
 }
