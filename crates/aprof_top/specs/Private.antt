@@ -1,4 +1,5 @@
 -- What private functions promise one another. No public clause rests on it.
+pub mod Demos
 pub mod Ending
 pub mod Jobs
 pub mod LastTexts
