@@ -204,6 +204,22 @@ impl Branches {
         Ok((depth, entry, points))
     }
 
+    // Adds the points of all contexts to a table that has none.
+    fn add_totals(&self, table: &mut Table) -> Result<(), AllocError>
+        requires light { ∥ IsOfLight self.now ∥₁ }
+        requires empty { table.old ≡ contents_of [] }
+        ensures { (past : List Event) → BranchesStandFor self.now past
+            → OnOk result (table.new ≡ contents_of (done past)) }
+    {
+        for i in 0..self.numbers.len() {
+            let (_, entry) = self.numbers.place(i as u32 + 1);
+            let points = self.points[i].list(self.alloc)?;
+            add_points(table, entry, &points)?;
+        }
+        table.index_routines()?;
+        Ok(())
+    }
+
     /// The points of all contexts together, by routine: those of all activations that ended.
     pub(crate) fn totals(&self, alloc: Global) -> Result<Table, AllocError>
         requires { ∥ IsOfLight self.now ∥₁ }
@@ -211,12 +227,7 @@ impl Branches {
             → IfOk result (λ table. table ≡ contents_of (done past)) }
     {
         let mut table = Table::new(alloc)?;
-        for i in 0..self.numbers.len() {
-            let (_, entry) = self.numbers.place(i as u32 + 1);
-            let points = self.points[i].list(alloc)?;
-            add_points(&mut table, entry, &points)?;
-        }
-        table.index_routines()?;
+        self.add_totals(&mut table)?;
         Ok(table)
     }
 

@@ -1,3 +1,4 @@
 mod Entries
 pub mod Sizes
 mod Words
+pub mod Pieces

@@ -12,15 +12,15 @@ use Rattle.context_tree.proofs.Climbing.{there_is}
 use Rattle.context_tree.proofs.Following.{as_many}
 use Rattle.context_tree.proofs.Once.{point_once}
 use Rattle.context_tree.proofs.Summing.{entries_here, few_here, good_here, list_is, table_all, table_step, told_here}
-use Rattle.context_tree.proofs.branches.Branches.totals.Goals as goal
+use Rattle.context_tree.proofs.branches.Branches.add_totals.Goals as goal
 
 pub index-requires : goal.index-requires
-index-requires c = ∥∥₁_elim c.requires (hlevel props) (λ of.
+index-requires c = ∥∥₁_elim c.requires.light (hlevel props) (λ of.
     let s = subst (λ (k : KeptBranches). BranchesStandFor k of.past) (sym c.self.view_is) of.now in
     omega (arith, c.loop-i-test.true, c.len-i-end.ensures.value, as_many _ of.past s, length-map c.self.inside.points.items (λ (p : PointList). p.points)))
 
 pub add_points-requires-clause-told : goal.add_points-requires-clause-told
-add_points-requires-clause-told c = ∥∥₁_elim c.requires (hlevel props) (λ of.
+add_points-requires-clause-told c = ∥∥₁_elim c.requires.light (hlevel props) (λ of.
     let s = subst (λ (k : KeptBranches). BranchesStandFor k of.past) (sym c.self.view_is) of.now in
     let inside : c.loop-i.i < length c.self.inside.points.items = omega (arith, c.loop-i-test.true, c.len-i-end.ensures.value, as_many _ of.past s, length-map c.self.inside.points.items (λ (p : PointList). p.points)) in
     let lt : c.loop-i.i < length (contexts of.past) = omega (arith, c.loop-i-test.true, c.len-i-end.ensures.value, s.contexts_are.long) in
@@ -30,7 +30,7 @@ add_points-requires-clause-told c = ∥∥₁_elim c.requires (hlevel props) (λ
     told_here _ of.past s c.loop-i.i lt c.deref.result.now read)
 
 pub add_points-requires-clause-each : goal.add_points-requires-clause-each
-add_points-requires-clause-each c = ∥∥₁_elim c.requires (hlevel (props, point_once)) (λ of.
+add_points-requires-clause-each c = ∥∥₁_elim c.requires.light (hlevel (props, point_once)) (λ of.
     let s = subst (λ (k : KeptBranches). BranchesStandFor k of.past) (sym c.self.view_is) of.now in
     let inside : c.loop-i.i < length c.self.inside.points.items = omega (arith, c.loop-i-test.true, c.len-i-end.ensures.value, as_many _ of.past s, length-map c.self.inside.points.items (λ (p : PointList). p.points)) in
     let lt : c.loop-i.i < length (contexts of.past) = omega (arith, c.loop-i-test.true, c.len-i-end.ensures.value, s.contexts_are.long) in
@@ -40,7 +40,7 @@ add_points-requires-clause-each c = ∥∥₁_elim c.requires (hlevel (props, po
     good_here _ of.past s c.loop-i.i lt c.deref.result.now read)
 
 pub add_points-requires-clause-few : goal.add_points-requires-clause-few
-add_points-requires-clause-few c = ∥∥₁_elim c.requires (hlevel props) (λ of.
+add_points-requires-clause-few c = ∥∥₁_elim c.requires.light (hlevel props) (λ of.
     let s = subst (λ (k : KeptBranches). BranchesStandFor k of.past) (sym c.self.view_is) of.now in
     let inside : c.loop-i.i < length c.self.inside.points.items = omega (arith, c.loop-i-test.true, c.len-i-end.ensures.value, as_many _ of.past s, length-map c.self.inside.points.items (λ (p : PointList). p.points)) in
     let lt : c.loop-i.i < length (contexts of.past) = omega (arith, c.loop-i-test.true, c.len-i-end.ensures.value, s.contexts_are.long) in

@@ -5,7 +5,7 @@ use Rattle.cost_points.specs.Contents.{contents_of}
 use Rattle.context_tree.specs.Contexts.{contexts}
 use Rattle.context_tree.specs.Points.{done_in_context, members_of}
 use Rattle.context_tree.specs.Branches.{BranchesStandFor}
-use Rattle.context_tree.proofs.branches.Branches.totals.Given as goal
+use Rattle.context_tree.proofs.branches.Branches.add_totals.Given as goal
 
 abbrev pub invariant-loop-i : goal.invariant-loop-i
 invariant-loop-i l = (past : List Event) → BranchesStandFor l.self past → l.table ≡ contents_of (flat_map (members_of (done_in_context past)) (take l.i (contexts past)))
