@@ -1,4 +1,3 @@
-use Rattle.std.proofs.Common.{take}
 use Rattle.std.proofs.lemmas.List.{take_more}
 use Rattle.trace_file.specs.Records.{number_bytes}
 use Rattle.trace_file.proofs.Texts.{one_more}
