@@ -1,4 +1,4 @@
-use Rattle.std.proofs.Common.{◌∙◌, ◌≤◌, ◌-◌, ap, subst, sym, List}
+use Rattle.std.proofs.Common.{◌∙◌, ◌≤◌, ◌-◌, ap, subst, sym}
 use Rattle.elf_image.specs.Image.{Executable, page_count}
 use Rattle.elf_image.specs.Reading.{image_of}
 use Rattle.guest_words.specs.declared.limits.TheConstants.{PAGES, STACK_PAGES}
