@@ -2,5 +2,6 @@ pub mod Cuts
 pub mod FaultKinds
 pub mod Found
 pub mod Numerals
+pub mod Pieces
 pub mod ReadyPlaces
 pub mod ThreadTables

@@ -11,4 +11,3 @@ pub mod OneText
 pub mod OneReading
 pub mod ToldContexts
 pub mod WorkedContexts
-pub mod Pieces

@@ -1,4 +1,3 @@
 mod Entries
 pub mod Sizes
 mod Words
-pub mod Pieces

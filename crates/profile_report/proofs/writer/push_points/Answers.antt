@@ -1,6 +1,6 @@
 use Rattle.std.proofs.lemmas.List.{take_more}
 use Rattle.profile_report.specs.LineForms.{ended, point_line}
-use Rattle.profile_report.proofs.Pieces.{one_more}
+use Rattle.guest_words.proofs.Pieces.{one_more}
 use Rattle.profile_report.proofs.writer.push_points.Goals as goal
 
 pub loop-point-preserved : goal.loop-point-preserved

@@ -1,7 +1,7 @@
 use Rattle.std.proofs.Common.{◌++◌, ◌∷◌, [], ◌∙◌, ap, sym, take}
 use Rattle.std.proofs.lemmas.List.{take_more}
 use Rattle.profile_report.specs.ReportText.{routine_text}
-use Rattle.profile_report.proofs.Pieces.{one_more}
+use Rattle.guest_words.proofs.Pieces.{one_more}
 use Rattle.profile_report.proofs.writer.push_routines.Goals as goal
 
 pub loop-routine-preserved : goal.loop-routine-preserved

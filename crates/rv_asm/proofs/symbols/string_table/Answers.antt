@@ -1,7 +1,7 @@
 use Rattle.std.proofs.Common.{◌++◌, ◌∷◌, [], ◌∙◌, ap, sym, take}
 use Rattle.std.proofs.lemmas.List.{take_more}
 use Rattle.rv_asm.specs.Executable.{string_of}
-use Rattle.rv_asm.proofs.Pieces.{one_more}
+use Rattle.guest_words.proofs.Pieces.{one_more}
 use Rattle.rv_asm.proofs.symbols.string_table.Goals as goal
 
 pub loop-symbol-preserved : goal.loop-symbol-preserved

@@ -4,7 +4,7 @@ use Rattle.std.proofs.lemmas.List.{map-append, take_more}
 use Rattle.trace_file.specs.declared.records.Record.TheVariants.{OfName}
 use Rattle.trace_file.specs.Records.{record_bytes}
 use Rattle.trace_file.specs.TraceText.{name_records}
-use Rattle.trace_file.proofs.Texts.{one_more}
+use Rattle.guest_words.proofs.Pieces.{one_more}
 use Rattle.trace_file.proofs.writer.push_names.Goals as goal
 
 pub loop-entry-preserved : goal.loop-entry-preserved

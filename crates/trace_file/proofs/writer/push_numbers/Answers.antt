@@ -1,6 +1,6 @@
 use Rattle.std.proofs.lemmas.List.{take_more}
 use Rattle.trace_file.specs.Records.{number_bytes}
-use Rattle.trace_file.proofs.Texts.{one_more}
+use Rattle.guest_words.proofs.Pieces.{one_more}
 use Rattle.trace_file.proofs.writer.push_numbers.Goals as goal
 
 pub loop-number-preserved : goal.loop-number-preserved
