@@ -58,6 +58,19 @@ impl ThreadCounts {
         self.steps += steps;
     }
 
+    /// What is counted after more steps.
+    #[inline(always)]
+    pub fn after(&self, steps: u64) -> ThreadCounts
+        requires { self.now.steps + steps < 2 ^ 64 }
+        ensures { result ≡ record self.now { steps = self.now.steps + steps } }
+    {
+        ThreadCounts {
+            steps: self.steps + steps,
+            thread: self.thread,
+            kernel: self.kernel,
+        }
+    }
+
     /// The words that a read found written by another thread, and by the kernel.
     pub fn add_found(&mut self, thread: u64, kernel: u64)
         requires thread { self.old.thread + thread < 2 ^ 64 }

@@ -5,7 +5,7 @@ ghost use Rattle.trace_model.specs.declared.event_kinds.Event.TheVariants.{Call,
 ghost use Rattle.std.specs.Vec.{vec_capacity};
 ghost use Rattle.trace_model.specs.declared.observer.Observed.{Observed};
 ghost use Rattle.trace_model.specs.Depth.{is_within};
-ghost use Rattle.trace_model.specs.Observing.{MayStepBy, MayTake, MayTakeAfter, Observes, ObservesAfter, StandsAsBefore, StepsBy, with_steps};
+ghost use Rattle.trace_model.specs.Observing.{MayStepBy, MayTake, MayTakeAfter, Observes, ObservesAfter, StandsAsBefore, StepsBy, result_of, with_steps};
 ghost use Rattle.trace_model.specs.Profile.{ended, steps};
 ghost use Rattle.shadow_core.specs.Applying.{IsTaken};
 ghost use Rattle.shadow_core.specs.State.{State};
@@ -18,7 +18,7 @@ use shadow_core::{ApplyError, Profiler};
 use stamp_lanes::Lanes;
 use std::alloc::{AllocError, Global};
 use std::marker::Model;
-use trace_model::{Done, Event, Observed, Observer};
+use trace_model::{Answer, Done, Event, Observed, Observer};
 
 /// The profile of the events so far, by stamps of a width, with what a keeper keeps of the activations that ended. It takes all
 /// pasts whose open activations the stamps tell apart.
@@ -168,15 +168,54 @@ impl<S: Lanes, K: Keeper> Profile<S, K> {
         self.observe(e)
     }
 
-    // The same. The event is copied here, so that the compiler has it in memory only where this is called.
-    #[inline(always)]
-    fn observe_apart(&mut self, tid: Tid, count: u64, e: &Event) -> Result<Observed, AllocError>
-        requires may { MayTakeAfter (IsProfileOf S.MAX K.holds) (is_within S.MAX) self.old tid count e.now }
+    // The same of a read of one word. It takes what its caller takes, and so is reached by a jump.
+    #[inline(never)]
+    fn read_apart(&mut self, tid: Tid, count: u64, w: Word) -> Answer
+        requires may { MayTakeAfter (IsProfileOf S.MAX K.holds) (is_within S.MAX) self.old tid count (Read tid w 1) }
         requires some { 1 ≤ count }
-        ensures observed { IfOk result (ObservesAfter (IsProfileOf S.MAX K.holds) (is_within S.MAX) tid count e.now self.old self.new) }
+        ensures observed { IfOk (result_of result) (ObservesAfter (IsProfileOf S.MAX K.holds) (is_within S.MAX) tid count (Read tid w 1) self.old self.new) }
     {
-        let copy = *e;
-        self.observe_both(tid, count, copy)
+        let read = Event::Read {
+            tid,
+            first: w,
+            count: 1,
+        };
+        Answer::of(self.observe_both(tid, count, read))
+    }
+
+    // The same of a write.
+    #[inline(never)]
+    fn written_apart(&mut self, tid: Tid, count: u64, w: Word) -> Answer
+        requires may { MayTakeAfter (IsProfileOf S.MAX K.holds) (is_within S.MAX) self.old tid count (Write tid w 1) }
+        requires some { 1 ≤ count }
+        ensures observed { IfOk (result_of result) (ObservesAfter (IsProfileOf S.MAX K.holds) (is_within S.MAX) tid count (Write tid w 1) self.old self.new) }
+    {
+        let write = Event::Write {
+            tid,
+            first: w,
+            count: 1,
+        };
+        Answer::of(self.observe_both(tid, count, write))
+    }
+
+    // The same of a call.
+    #[inline(never)]
+    fn call_apart(&mut self, tid: Tid, count: u64, entry: Addr, back: Addr) -> Answer
+        requires may { MayTakeAfter (IsProfileOf S.MAX K.holds) (is_within S.MAX) self.old tid count (Call tid entry back) }
+        requires some { 1 ≤ count }
+        ensures observed { IfOk (result_of result) (ObservesAfter (IsProfileOf S.MAX K.holds) (is_within S.MAX) tid count (Call tid entry back) self.old self.new) }
+    {
+        Answer::of(self.observe_both(tid, count, Event::Call { tid, entry, back }))
+    }
+
+    // The same of a return.
+    #[inline(never)]
+    fn return_apart(&mut self, tid: Tid, count: u64, target: Addr) -> Answer
+        requires may { MayTakeAfter (IsProfileOf S.MAX K.holds) (is_within S.MAX) self.old tid count (Ret tid target) }
+        requires some { 1 ≤ count }
+        ensures observed { IfOk (result_of result) (ObservesAfter (IsProfileOf S.MAX K.holds) (is_within S.MAX) tid count (Ret tid target) self.old self.new) }
+    {
+        Answer::of(self.observe_both(tid, count, Event::Ret { tid, target }))
     }
 
     // Counts steps of a thread and hands them to the keeper, which has taken all before them, and then an event that ends no
@@ -199,139 +238,87 @@ impl<S: Lanes, K: Keeper> Profile<S, K> {
         }
     }
 
-    // Takes steps of a thread and its read. Mostly it is of one word, the keeper has taken all, and the page of the word is there.
-    #[inline]
-    fn observe_read(
-        &mut self,
-        tid: Tid,
-        count: u64,
-        reader: Tid,
-        first: Word,
-        words: u32,
-    ) -> Result<Observed, AllocError>
-        requires may { MayTakeAfter (IsProfileOf S.MAX K.holds) (is_within S.MAX) self.old tid count (Read reader first words) }
+    // Takes steps of a thread, the last of which read one word. Mostly the keeper has taken all, and the page of the word is there.
+    #[inline(always)]
+    fn take_word_read(&mut self, tid: Tid, count: u64, w: Word) -> Answer
+        requires may { MayTakeAfter (IsProfileOf S.MAX K.holds) (is_within S.MAX) self.old tid count (Read tid w 1) }
         requires some { 1 ≤ count }
-        ensures observed { IfOk result (ObservesAfter (IsProfileOf S.MAX K.holds) (is_within S.MAX) tid count (Read reader first words) self.old self.new) }
+        ensures observed { IfOk (result_of result) (ObservesAfter (IsProfileOf S.MAX K.holds) (is_within S.MAX) tid count (Read tid w 1) self.old self.new) }
     {
         let e = Event::Read {
-            tid: reader,
-            first,
-            count: words,
+            tid,
+            first: w,
+            count: 1,
         };
-        if words != 1 {
-            return self.observe_apart(tid, count, &e);
-        }
-        if reader != tid {
-            return self.observe_apart(tid, count, &e);
-        }
         if self.next.is_some() {
-            return self.observe_apart(tid, count, &e);
+            return self.read_apart(tid, count, w);
         }
-        match self.profiler.word_read(tid, first) {
+        match self.profiler.word_read(tid, w) {
             Some(access) => {
                 self.pass_after(tid, count, e);
-                self.profiler.read_after(tid, count, first, access);
-                Ok(Observed::Taken)
+                self.profiler.read_after(tid, count, w, access);
+                Answer::Taken
             }
-            None => self.observe_apart(tid, count, &e),
+            None => self.read_apart(tid, count, w),
         }
     }
 
-    // Takes steps of a thread and its write.
-    #[inline]
-    fn observe_write(
-        &mut self,
-        tid: Tid,
-        count: u64,
-        writer: Tid,
-        first: Word,
-        words: u32,
-    ) -> Result<Observed, AllocError>
-        requires may { MayTakeAfter (IsProfileOf S.MAX K.holds) (is_within S.MAX) self.old tid count (Write writer first words) }
+    // The same of a write.
+    #[inline(always)]
+    fn take_word_written(&mut self, tid: Tid, count: u64, w: Word) -> Answer
+        requires may { MayTakeAfter (IsProfileOf S.MAX K.holds) (is_within S.MAX) self.old tid count (Write tid w 1) }
         requires some { 1 ≤ count }
-        ensures observed { IfOk result (ObservesAfter (IsProfileOf S.MAX K.holds) (is_within S.MAX) tid count (Write writer first words) self.old self.new) }
+        ensures observed { IfOk (result_of result) (ObservesAfter (IsProfileOf S.MAX K.holds) (is_within S.MAX) tid count (Write tid w 1) self.old self.new) }
     {
         let e = Event::Write {
-            tid: writer,
-            first,
-            count: words,
+            tid,
+            first: w,
+            count: 1,
         };
-        if words != 1 {
-            return self.observe_apart(tid, count, &e);
-        }
-        if writer != tid {
-            return self.observe_apart(tid, count, &e);
-        }
         if self.next.is_some() {
-            return self.observe_apart(tid, count, &e);
+            return self.written_apart(tid, count, w);
         }
-        match self.profiler.word_written(tid, first) {
+        match self.profiler.word_written(tid, w) {
             Some(written) => {
                 self.pass_after(tid, count, e);
-                self.profiler.write_after(tid, count, first, written);
-                Ok(Observed::Taken)
+                self.profiler.write_after(tid, count, w, written);
+                Answer::Taken
             }
-            None => self.observe_apart(tid, count, &e),
+            None => self.written_apart(tid, count, w),
         }
     }
 
-    // Takes steps of a thread and its call.
-    #[inline]
-    fn observe_call(
-        &mut self,
-        tid: Tid,
-        count: u64,
-        caller: Tid,
-        entry: Addr,
-        back: Addr,
-    ) -> Result<Observed, AllocError>
-        requires may { MayTakeAfter (IsProfileOf S.MAX K.holds) (is_within S.MAX) self.old tid count (Call caller entry back) }
+    // The same of a call.
+    #[inline(always)]
+    fn take_call(&mut self, tid: Tid, count: u64, entry: Addr, back: Addr) -> Answer
+        requires may { MayTakeAfter (IsProfileOf S.MAX K.holds) (is_within S.MAX) self.old tid count (Call tid entry back) }
         requires some { 1 ≤ count }
-        ensures observed { IfOk result (ObservesAfter (IsProfileOf S.MAX K.holds) (is_within S.MAX) tid count (Call caller entry back) self.old self.new) }
+        ensures observed { IfOk (result_of result) (ObservesAfter (IsProfileOf S.MAX K.holds) (is_within S.MAX) tid count (Call tid entry back) self.old self.new) }
     {
-        let e = Event::Call {
-            tid: caller,
-            entry,
-            back,
-        };
-        if caller != tid {
-            return self.observe_apart(tid, count, &e);
-        }
+        let e = Event::Call { tid, entry, back };
         if self.next.is_some() {
-            return self.observe_apart(tid, count, &e);
+            return self.call_apart(tid, count, entry, back);
         }
         if !self.profiler.call_after(tid, count, entry, back) {
-            return self.observe_apart(tid, count, &e);
+            return self.call_apart(tid, count, entry, back);
         }
         self.pass_after(tid, count, e);
-        Ok(Observed::Taken)
+        Answer::Taken
     }
 
-    // Takes steps of a thread and its return. Mostly it ends one activation, whose record then need not go through the list.
-    #[inline]
-    fn observe_return(
-        &mut self,
-        tid: Tid,
-        count: u64,
-        returner: Tid,
-        target: Addr,
-    ) -> Result<Observed, AllocError>
-        requires may { MayTakeAfter (IsProfileOf S.MAX K.holds) (is_within S.MAX) self.old tid count (Ret returner target) }
+    // The same of a return. Mostly it ends one activation, whose record then need not go through the list.
+    #[inline(always)]
+    fn take_return(&mut self, tid: Tid, count: u64, target: Addr) -> Answer
+        requires may { MayTakeAfter (IsProfileOf S.MAX K.holds) (is_within S.MAX) self.old tid count (Ret tid target) }
         requires some { 1 ≤ count }
-        ensures observed { IfOk result (ObservesAfter (IsProfileOf S.MAX K.holds) (is_within S.MAX) tid count (Ret returner target) self.old self.new) }
+        ensures observed { IfOk (result_of result) (ObservesAfter (IsProfileOf S.MAX K.holds) (is_within S.MAX) tid count (Ret tid target) self.old self.new) }
     {
-        let e = Event::Ret {
-            tid: returner,
-            target,
-        };
-        if returner != tid {
-            return self.observe_apart(tid, count, &e);
-        }
+        let e = Event::Ret { tid, target };
         if self.next.is_some() {
-            return self.observe_apart(tid, count, &e);
+            return self.return_apart(tid, count, target);
         }
         if self.ended.capacity() < 1 {
-            return self.observe_apart(tid, count, &e);
+            return self.return_apart(tid, count, target);
         }
         match self.profiler.return_after(tid, count, target) {
             Some(ended) => {
@@ -339,13 +326,13 @@ impl<S: Lanes, K: Keeper> Profile<S, K> {
                 self.kept.take_steps(tid, count);
                 let ends = [ended];
                 if self.kept.pass(&e, &ends) {
-                    return Ok(Observed::Taken);
+                    return Answer::Taken;
                 }
                 keep_only(&mut self.ended, &ends[0]);
                 self.next = Some(e);
-                Ok(Observed::Taken)
+                Answer::Taken
             }
-            None => self.observe_apart(tid, count, &e),
+            None => self.return_apart(tid, count, target),
         }
     }
 
@@ -420,33 +407,44 @@ impl<S: Lanes, K: Keeper> Observer for Profile<S, K> {
         }
     }
 
-    // Each kind of event that most programs have most has a function of its own, where the keeper mostly takes an event at once.
     #[inline(always)]
     fn observe_after(&mut self, tid: Tid, count: u64, e: Event) -> Result<Observed, AllocError> {
-        if !K::PASSES {
-            return self.observe_both(tid, count, e);
+        self.observe_both(tid, count, e)
+    }
+
+    #[inline(always)]
+    fn observe_word_read(&mut self, tid: Tid, count: u64, w: Word) -> Answer {
+        if K::PASSES {
+            self.take_word_read(tid, count, w)
+        } else {
+            self.read_apart(tid, count, w)
         }
-        match e {
-            Event::Read {
-                tid: reader,
-                first,
-                count: words,
-            } => self.observe_read(tid, count, reader, first, words),
-            Event::Write {
-                tid: writer,
-                first,
-                count: words,
-            } => self.observe_write(tid, count, writer, first, words),
-            Event::Call {
-                tid: caller,
-                entry,
-                back,
-            } => self.observe_call(tid, count, caller, entry, back),
-            Event::Ret {
-                tid: returner,
-                target,
-            } => self.observe_return(tid, count, returner, target),
-            _ => self.observe_apart(tid, count, &e),
+    }
+
+    #[inline(always)]
+    fn observe_word_written(&mut self, tid: Tid, count: u64, w: Word) -> Answer {
+        if K::PASSES {
+            self.take_word_written(tid, count, w)
+        } else {
+            self.written_apart(tid, count, w)
+        }
+    }
+
+    #[inline(always)]
+    fn observe_call(&mut self, tid: Tid, count: u64, entry: Addr, back: Addr) -> Answer {
+        if K::PASSES {
+            self.take_call(tid, count, entry, back)
+        } else {
+            self.call_apart(tid, count, entry, back)
+        }
+    }
+
+    #[inline(always)]
+    fn observe_return(&mut self, tid: Tid, count: u64, target: Addr) -> Answer {
+        if K::PASSES {
+            self.take_return(tid, count, target)
+        } else {
+            self.return_apart(tid, count, target)
         }
     }
 

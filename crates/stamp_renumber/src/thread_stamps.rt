@@ -192,15 +192,14 @@ impl<S: Stamp> ThreadStamps<S> {
         ensures lowered { self.old.spare ≤ self.new.spare + 1 }
         ensures same { result ≡ false → self.new ≡ self.old }
     {
-        let mut counts = self.counts;
-        counts.add_steps(steps);
+        let counts = self.counts.after(steps);
         if !self
             .frames
             .push_over(start, BegunCall::new(entry, back, counts))
         {
             return false;
         }
-        self.counts = counts;
+        self.counts.add_steps(steps);
         true
     }
 

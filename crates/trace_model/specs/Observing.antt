@@ -1,7 +1,11 @@
 -- What an observer of events owes. A past is the list of the events so far, the newest first.
-use Rattle.std.specs.Prelude.{◌≡◌, ℕ, zero, suc, Bool, true, false, List, ◌∷◌}
+use Rattle.std.specs.Prelude.{◌≡◌, ℕ, zero, suc, Bool, true, false, List, ◌∷◌, Result, Ok, Err}
+use Rattle.std.specs.Allocator.{alloc_error}
+use Rattle.std.specs.declared.alloc.AllocError.{AllocError}
 use Rattle.trace_model.specs.declared.event_kinds.Event.{Event}
 use Rattle.trace_model.specs.declared.event_kinds.Event.TheVariants.{Step}
+use Rattle.trace_model.specs.declared.observer.Answer.{Answer}
+use Rattle.trace_model.specs.declared.observer.Answer.TheVariants as answer
 use Rattle.trace_model.specs.declared.observer.Observed.{Observed}
 use Rattle.trace_model.specs.declared.observer.Observed.TheVariants.{Taken, Refused}
 use Rattle.trace_model.specs.Cut.{cut, past_after}
@@ -39,6 +43,12 @@ abbrev pub ObservesAll : {O : Type 0} → (O → List Event → Type 0) → (Lis
 ObservesAll Stands fits events old new observed =
     (past : List Event) → Stands old past → fits past ≡ true →
     Stands new (cut fits (past_after past events)) × (fits (past_after past events) ≡ is_taken observed)
+
+-- what an answer in one number says
+abbrev pub result_of : Answer → Result Observed AllocError
+result_of answer.Taken = Ok Taken
+result_of answer.Refused = Ok Refused
+result_of answer.OutOfMemory = Err alloc_error
 
 -- ---- Steps of a thread in a row.
 -- the past with more steps of the thread

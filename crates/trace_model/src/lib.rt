@@ -20,5 +20,5 @@ pub use laws::{
     parts_are_in_time, pending_is_of_all_threads, short_parts_are_light, size_counts_unknown_reads,
     sizes_are_parts, worked_traces_are_as_written,
 };
-pub use observer::{Observed, Observer, feed};
+pub use observer::{Answer, Observed, Observer, feed};
 pub use slow_profile::{Done, slow_done};

@@ -1,11 +1,12 @@
 //! What takes the events of a run.
 ghost use Rattle.std.specs.Prelude.{◌≡◌, ◌≤◌, Bool, List, IfOk, OnErr, OnOk};
 ghost use Rattle.trace_model.specs.declared.event_kinds.Event.{Event};
+ghost use Rattle.trace_model.specs.declared.event_kinds.Event.TheVariants.{Call, Read, Ret, Write};
 ghost use Rattle.trace_model.specs.Cut.{IsPrefixClosed};
-ghost use Rattle.trace_model.specs.Observing.{MayStepBy, MayTake, MayTakeAfter, MayTakeAll, Observes, ObservesAfter, ObservesAll, StandsAsBefore, StepsBy, StepsFit};
+ghost use Rattle.trace_model.specs.Observing.{MayStepBy, MayTake, MayTakeAfter, MayTakeAll, Observes, ObservesAfter, ObservesAll, StandsAsBefore, StepsBy, StepsFit, result_of};
 
 use crate::Event;
-use guest_words::Tid;
+use guest_words::{Addr, Tid, Word};
 use std::alloc::AllocError;
 
 /// Whether an observer took an event.
@@ -14,6 +15,41 @@ pub enum Observed {
     Taken,
     /// The past with this event is more than the observer can tell apart.
     Refused,
+}
+
+/// What became of an event and the steps before it, as one number: an observer's answer, or that memory could not be allocated.
+#[derive(Clone, Copy, Debug, PartialEq, Eq)]
+pub enum Answer {
+    Taken,
+    /// As `Observed::Refused`.
+    Refused,
+    OutOfMemory,
+}
+
+impl Answer {
+    /// The same, as one number.
+    #[inline(always)]
+    pub fn of(observed: Result<Observed, AllocError>) -> Answer
+        ensures { result_of result ≡ observed }
+    {
+        match observed {
+            Ok(Observed::Taken) => Answer::Taken,
+            Ok(Observed::Refused) => Answer::Refused,
+            Err(_) => Answer::OutOfMemory,
+        }
+    }
+
+    /// The same, as a result.
+    #[inline(always)]
+    pub fn result(self) -> Result<Observed, AllocError>
+        ensures { result ≡ result_of self }
+    {
+        match self {
+            Answer::Taken => Ok(Observed::Taken),
+            Answer::Refused => Ok(Observed::Refused),
+            Answer::OutOfMemory => Err(AllocError),
+        }
+    }
 }
 
 /// What takes the events of a run, one by one: a profiler, a writer of traces, a cache.
@@ -63,6 +99,60 @@ pub trait Observer {
     {
         self.observe_steps(tid, count)?;
         self.observe(e)
+    }
+
+    /// Takes `count` steps of a thread in a row, the last of which read one word.
+    #[inline(always)]
+    fn observe_word_read(&mut self, tid: Tid, count: u64, w: Word) -> Answer
+        requires may { MayTakeAfter stands (fits self.old) self.old tid count (Read tid w 1) }
+        requires some { 1 ≤ count }
+        ensures observed { IfOk (result_of result) (ObservesAfter stands (fits self.old) tid count (Read tid w 1) self.old self.new) }
+        ensures same { fits self.new ≡ fits self.old }
+    {
+        let read = Event::Read {
+            tid,
+            first: w,
+            count: 1,
+        };
+        Answer::of(self.observe_after(tid, count, read))
+    }
+
+    /// Takes `count` steps of a thread in a row, the last of which wrote one word.
+    #[inline(always)]
+    fn observe_word_written(&mut self, tid: Tid, count: u64, w: Word) -> Answer
+        requires may { MayTakeAfter stands (fits self.old) self.old tid count (Write tid w 1) }
+        requires some { 1 ≤ count }
+        ensures observed { IfOk (result_of result) (ObservesAfter stands (fits self.old) tid count (Write tid w 1) self.old self.new) }
+        ensures same { fits self.new ≡ fits self.old }
+    {
+        let write = Event::Write {
+            tid,
+            first: w,
+            count: 1,
+        };
+        Answer::of(self.observe_after(tid, count, write))
+    }
+
+    /// Takes `count` steps of a thread in a row, the last of which is a call.
+    #[inline(always)]
+    fn observe_call(&mut self, tid: Tid, count: u64, entry: Addr, back: Addr) -> Answer
+        requires may { MayTakeAfter stands (fits self.old) self.old tid count (Call tid entry back) }
+        requires some { 1 ≤ count }
+        ensures observed { IfOk (result_of result) (ObservesAfter stands (fits self.old) tid count (Call tid entry back) self.old self.new) }
+        ensures same { fits self.new ≡ fits self.old }
+    {
+        Answer::of(self.observe_after(tid, count, Event::Call { tid, entry, back }))
+    }
+
+    /// Takes `count` steps of a thread in a row, the last of which is a return.
+    #[inline(always)]
+    fn observe_return(&mut self, tid: Tid, count: u64, target: Addr) -> Answer
+        requires may { MayTakeAfter stands (fits self.old) self.old tid count (Ret tid target) }
+        requires some { 1 ≤ count }
+        ensures observed { IfOk (result_of result) (ObservesAfter stands (fits self.old) tid count (Ret tid target) self.old self.new) }
+        ensures same { fits self.new ≡ fits self.old }
+    {
+        Answer::of(self.observe_after(tid, count, Event::Ret { tid, target }))
     }
 }
 

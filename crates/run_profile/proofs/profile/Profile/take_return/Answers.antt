@@ -1,14 +1,12 @@
 use Rattle.std.proofs.Common.{◌≡◌, ◌∙◌, ◌∷◌, [], ap, arith, refl, subst, sym}
 use Rattle.std.specs.Prelude.{IfOk, None}
-use Rattle.std.proofs.lemmas.Bool.Decides.{nat_tests}
 use Rattle.trace_model.specs.declared.event_kinds.Event.TheVariants.{Ret}
 use Rattle.trace_model.specs.Depth.{is_within}
-use Rattle.trace_model.specs.Observing.{ObservesAfter, with_steps}
-use Rattle.shadow_core.specs.Applying.{IsTaken}
+use Rattle.trace_model.specs.Observing.{ObservesAfter, result_of, with_steps}
 use Rattle.shadow_core.specs.State.{State}
 use Rattle.run_profile.specs.Profile.{IsProfileOf, KeptRun}
 use Rattle.run_profile.proofs.Profiles.{few_more, not_some, passed_after, settled_of, waits_after}
-use Rattle.run_profile.proofs.profile.Profile.observe_return.Goals as goal
+use Rattle.run_profile.proofs.profile.Profile.take_return.Goals as goal
 
 pub overflow_add-self : goal.overflow_add-self
 overflow_add-self g c =
@@ -22,12 +20,11 @@ returns-then-pass g c = record {
       let p = subst (λ (k : KeptRun g.row.K.Denot). IsProfileOf g.S.Stamp.MAX g.K.Keeper.holds k past) (sym c.self.view_is) kept in
       let none : c.self.inside.next ≡ None = not_some c.self.inside.next (sym c.is_some.ensures ∙ c.if-is_some.false) in
       let own = settled_of g.S.Stamp.MAX g.K.Keeper.holds _ past p none in
-      let same : c.args.returner ≡ c.args.tid = grind (arith, nat_tests, c.ne.ensures, c.if-ne.false) in
       let later = with_steps c.args.tid c.args.count past in
       let new = c.return_after.new.self in
       let ends = c.in-Some.ended ∷ [] in
-      let taken = subst (λ r. IsTaken g.S.Stamp.MAX (Ret r c.args.target) later new [] ends) (sym same) (c.in-Some.ensures.stands past p.stands) in (
-        passed_after g.S.Stamp.MAX g.K.Keeper.holds c.args.tid c.args.count _ past own (Ret c.args.returner c.args.target) refl new ends taken c.pass.new.self c.self.inside.ended.items
+      let taken = c.in-Some.ensures.stands past p.stands in (
+        passed_after g.S.Stamp.MAX g.K.Keeper.holds c.args.tid c.args.count _ past own (Ret c.args.tid c.args.target) refl new ends taken c.pass.new.self c.self.inside.ended.items
             (c.if-pass.ensures.passes later (c.take_steps.ensures past own.kept) taken.recorded),
         taken.fits,
       );
@@ -39,12 +36,11 @@ returns-else-pass g c = record {
       let p = subst (λ (k : KeptRun g.row.K.Denot). IsProfileOf g.S.Stamp.MAX g.K.Keeper.holds k past) (sym c.self.view_is) kept in
       let none : c.self.inside.next ≡ None = not_some c.self.inside.next (sym c.is_some.ensures ∙ c.if-is_some.false) in
       let own = settled_of g.S.Stamp.MAX g.K.Keeper.holds _ past p none in
-      let same : c.args.returner ≡ c.args.tid = grind (arith, nat_tests, c.ne.ensures, c.if-ne.false) in
       let later = with_steps c.args.tid c.args.count past in
       let new = c.return_after.new.self in
       let ends = c.in-Some.ended ∷ [] in
-      let taken = subst (λ r. IsTaken g.S.Stamp.MAX (Ret r c.args.target) later new [] ends) (sym same) (c.in-Some.ensures.stands past p.stands) in (
-        waits_after g.S.Stamp.MAX g.K.Keeper.holds c.args.tid c.args.count _ past own (Ret c.args.returner c.args.target) refl new ends taken c.pass.new.self c.keep_only.new.list.items
+      let taken = c.in-Some.ensures.stands past p.stands in (
+        waits_after g.S.Stamp.MAX g.K.Keeper.holds c.args.tid c.args.count _ past own (Ret c.args.tid c.args.target) refl new ends taken c.pass.new.self c.keep_only.new.list.items
             c.keep_only.ensures
             (c.if-pass.ensures.passes later (c.take_steps.ensures past own.kept) taken.recorded),
         taken.fits,
@@ -56,7 +52,7 @@ returns-in-None g c =
     let old : KeptRun g.row.K.Denot = record { stamps = c.self.inside.profiler; kept = c.self.inside.kept; next = c.self.inside.next; ended = c.self.inside.ended.items; steps = c.self.inside.steps } in
     let same = ap (λ (s : State). record old { stamps = s }) c.in-None.ensures.same ∙ c.self.view_is in
     record {
-      observed = subst (λ (k : KeptRun g.row.K.Denot). IfOk c.observe_apart-in-None.result
-          (ObservesAfter (IsProfileOf g.S.Stamp.MAX g.K.Keeper.holds) (is_within g.S.Stamp.MAX) c.args.tid c.args.count (Ret c.args.returner c.args.target) k c.observe_apart-in-None.new.self))
-          same c.observe_apart-in-None.ensures.observed;
+      observed = subst (λ (k : KeptRun g.row.K.Denot). IfOk (result_of c.return_apart-in-None.result)
+          (ObservesAfter (IsProfileOf g.S.Stamp.MAX g.K.Keeper.holds) (is_within g.S.Stamp.MAX) c.args.tid c.args.count (Ret c.args.tid c.args.target) k c.return_apart-in-None.new.self))
+          same c.return_apart-in-None.ensures.observed;
     }
