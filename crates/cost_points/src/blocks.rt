@@ -80,6 +80,21 @@ pub(crate) fn search<T: Keyed>(blocks: &[Vec<T>], key: u64) -> Result<Place, Pla
     }
 }
 
+/// Whether the key stands at the place; a place that is none has no key.
+#[inline(always)]
+pub(crate) fn stands_at<T: Keyed>(blocks: &[Vec<T>], place: Place, key: u64) -> bool
+    requires { IsRising (map T.key_of (items_in blocks.now)) }
+    ensures { result ≡ true → IsPlaceOf T.key_of (map (λ b. b.items) blocks.now) key place.block place.at }
+{
+    if place.block < blocks.len() {
+        let block = &blocks[place.block];
+        if place.at < block.len() && block[place.at].key() == key {
+            return true;
+        }
+    }
+    false
+}
+
 /// Where the key stands, or where it would go. The place of the item that was changed last is tried first.
 #[inline(always)]
 pub(crate) fn find<T: Keyed>(blocks: &[Vec<T>], last: Place, key: u64) -> Result<Place, Place>
@@ -89,11 +104,8 @@ pub(crate) fn find<T: Keyed>(blocks: &[Vec<T>], last: Place, key: u64) -> Result
         (λ p. IsPlaceOf T.key_of (map (λ b. b.items) blocks.now) key p.block p.at)
         (λ p. IsGapOf T.key_of (map (λ b. b.items) blocks.now) key p.block p.at) }
 {
-    if last.block < blocks.len() {
-        let block = &blocks[last.block];
-        if last.at < block.len() && block[last.at].key() == key {
-            return Ok(last);
-        }
+    if stands_at(blocks, last, key) {
+        return Ok(last);
     }
     search(blocks, key)
 }
@@ -125,11 +137,8 @@ pub(crate) fn reach<T: Keyed>(blocks: &[Vec<T>], last: &mut Place, key: u64) -> 
     ensures reached { result ≡ true → IsPlaceOf T.key_of (map (λ b. b.items) blocks.now) key last.new.block last.new.at }
     ensures nowhere { result ≡ false → (at : ℕ) → IsAt (map T.key_of (items_in blocks.now)) key at → ⊥ }
 {
-    if last.block < blocks.len() {
-        let block = &blocks[last.block];
-        if last.at < block.len() && block[last.at].key() == key {
-            return true;
-        }
+    if stands_at(blocks, *last, key) {
+        return true;
     }
     reach_apart(blocks, last, key)
 }

@@ -113,6 +113,19 @@ impl<T: Keyed + Drop> ByKey<T> {
         blocks::find(&self.blocks, self.last, key)
     }
 
+    /// The place of the item that was changed last, if it has the key.
+    #[inline(always)]
+    pub fn last_place(&self, key: u64) -> Option<Place>
+        requires { IsRising (map T.key_of (joined self.now)) }
+        ensures { IfSome result (λ p. IsPlaceOf T.key_of self.now key p.block p.at) }
+    {
+        if blocks::stands_at(&self.blocks, self.last, key) {
+            Some(self.last)
+        } else {
+            None
+        }
+    }
+
     /// Where the key stands, or None. The place of the item that was changed last is tried first.
     #[inline(always)]
     pub fn reach(&mut self, key: u64) -> Option<Place>
