@@ -19,3 +19,5 @@ pub mod PlainSteps
 pub mod RowOfSteps
 pub mod MadeSteps
 pub mod TriedSteps
+pub mod NextSteps
+pub mod JumpSteps

@@ -1,5 +1,6 @@
 -- An instruction that was carried out and told to the observer at once.
 use Rattle.std.proofs.Common.{◌≡◌, ℕ, ℤ, ◌+◌, ◌<◌, ◌≤◌, ◌%◌, ◌^◌, Bool, List, [], ◌∷◌, ◌++◌, Result, Ok, Err, IfOk, ap, refl, sym, subst, ◌∙◌, append-nil, arith}
+use Rattle.std.specs.Allocator.{alloc_error}
 use Rattle.std.specs.declared.alloc.AllocError.{AllocError}
 use Rattle.guest_memory.specs.Code.{IsInstructionAt}
 use Rattle.guest_memory.specs.Guest.{memory_of}
@@ -21,19 +22,20 @@ use Rattle.call_tracker.specs.declared.jumps.JumpKind.{JumpKind}
 use Rattle.call_tracker.specs.declared.jumps.JumpKind.TheVariants.{Nothing}
 use Rattle.trace_model.specs.declared.event_kinds.Event.{Event}
 use Rattle.trace_model.specs.declared.event_kinds.Event.TheVariants.{Read, Step, Write}
+use Rattle.trace_model.specs.declared.observer.Answer.{Answer}
+use Rattle.trace_model.specs.declared.observer.Answer.TheVariants as reply
 use Rattle.trace_model.specs.declared.observer.Observed.{Observed}
 use Rattle.trace_model.specs.declared.observer.Observed.TheVariants as observed
 use Rattle.trace_model.specs.Cut.{IsPrefixClosed}
-use Rattle.trace_model.specs.Observing.{MayTakeAfter, MayTakeAll, ObservesAfter, ObservesAll, StepsFit}
+use Rattle.trace_model.specs.Observing.{MayTakeAfter, MayTakeAll, ObservesAfter, ObservesAll, StepsFit, result_of}
 use Rattle.guest_machine.specs.declared.stepped.Advanced.{Advanced}
 use Rattle.guest_machine.specs.declared.stepped.Advanced.TheVariants.{Accessed}
-use Rattle.guest_machine.specs.declared.rows.StepRow.{StepRow}
 use Rattle.guest_machine.specs.declared.rows.Further.{Further}
 use Rattle.guest_machine.specs.declared.making.Made.{Made}
 use Rattle.guest_machine.specs.declared.making.Made.TheVariants as made
 use Rattle.guest_machine.specs.Private.Carrying.{IsStepOf}
 use Rattle.guest_machine.specs.Private.Making.{Makes, MakesLoad, MakesStore, MayLoad, MayMake, MayStore, behind, made_answer, made_of, made_row, stored}
-use Rattle.guest_machine.specs.Private.Rows.{HasRun, Runs, RunsOn, further_of, handed}
+use Rattle.guest_machine.specs.Private.Rows.{further_of, handed, HasRun, Row, Runs, RunsOn}
 use Rattle.guest_machine.specs.Step.{access_events, jump_events}
 use Rattle.guest_machine.specs.Told.{done_by, steps_of}
 use Rattle.guest_machine.proofs.Carried.{known_is, state_kept, steps_to}
@@ -62,7 +64,7 @@ module _ {O : Type 0} (Stands : O → List Event → Type 0) (fits : List Event 
         (may_hand Stands fits fit tid r.first r.old r.most row here now r.run may.low new advanced step)))
 
     leads : (later : O) (answer : Result Observed AllocError) → IfOk answer (ObservesAfter Stands fits tid steps e now later)
-        → (row : StepRow) → row.plain < row.left → steps ≡ row.plain + 1 → RunsOn Stands fits tid row here now (handed row) new later answer
+        → (row : Row) → row.plain < row.left → steps ≡ row.plain + 1 → RunsOn Stands fits tid row here now (handed row) new later answer
     leads later answer observes row low count first old most run =
         runs_handed Stands fits fit tid first old most row here now run low new advanced step answer later (all answer observes)
       where
@@ -78,27 +80,27 @@ module _ {O : Type 0} (Stands : O → List Event → Type 0) (fits : List Event 
         all (Ok seen) h = told seen h
         all (Err error) h = tt
 
-    makes : (later : O) (answer : Result Observed AllocError) → IfOk answer (ObservesAfter Stands fits tid steps e now later)
-        → Makes Stands fits tid steps here now new later (made_of answer)
-    makes later (Ok observed.Taken) observes = leads later (Ok observed.Taken) observes
-    makes later (Ok observed.Refused) observes = leads later (Ok observed.Refused) observes
-    makes later (Err error) observes = leads later (Err error) observes
+    makes : (later : O) (told : Answer) → IfOk (result_of told) (ObservesAfter Stands fits tid steps e now later)
+        → Makes Stands fits tid steps here now new later (made_of told)
+    makes later reply.Taken observes = leads later (Ok observed.Taken) observes
+    makes later reply.Refused observes = leads later (Ok observed.Refused) observes
+    makes later reply.OutOfMemory observes = leads later (Err alloc_error) observes
 
   -- an instruction that changed nothing
-  makes_none : (new : ExecState) → new ≡ here → Makes Stands fits tid steps here now new now (Ok made.Stops)
+  makes_none : (new : ExecState) → new ≡ here → Makes Stands fits tid steps here now new now made.Stops
   makes_none new same = λ row low count first old most run.
       subst (λ (s : ExecState). HasRun Stands fits tid first old most row s now) (sym same) run
 
 -- the counter behind what was told
-behind_told : (pc : ℕ) (answer : Result Observed AllocError) → behind pc (made_of answer) ≡ (pc + 4) % 2 ^ 32
-behind_told pc (Ok observed.Taken) = refl
-behind_told pc (Ok observed.Refused) = refl
-behind_told pc (Err e) = refl
+behind_told : (pc : ℕ) (told : Answer) → behind pc (made_of told) ≡ (pc + 4) % 2 ^ 32
+behind_told pc reply.Taken = refl
+behind_told pc reply.Refused = refl
+behind_told pc reply.OutOfMemory = refl
 
-stored_told : (r : Registers) (answer : Result Observed AllocError) → stored r (made_of answer) ≡ advanced r
-stored_told r (Ok observed.Taken) = refl
-stored_told r (Ok observed.Refused) = refl
-stored_told r (Err e) = refl
+stored_told : (r : Registers) (told : Answer) → stored r (made_of told) ≡ advanced r
+stored_told r reply.Taken = refl
+stored_told r reply.Refused = refl
+stored_told r reply.OutOfMemory = refl
 
 -- ---- loads
 module _ {O : Type 0} (Stands : O → List Event → Type 0) (fits : List Event → Bool) (closed : IsPrefixClosed fits) (fit : StepsFit fits) (tid steps : ℕ)
@@ -119,17 +121,17 @@ module _ {O : Type 0} (Stands : O → List Event → Type 0) (fits : List Event 
         (exec_state_of (with_pc ((may.pc + 4) % 2 ^ 32) new) memory may.held) (Read tid first count) (Accessed (access.Read first count)) refl
         (load_step may.pc may.held may.base may.offset may.known may.at_is) may.may
 
-    pub makes_load : (later : O) (answer : Result Observed AllocError) → IfOk answer (ObservesAfter Stands fits tid steps (Read tid first count) now later)
-        → MakesLoad Stands fits tid steps kind rd at memory old now new later (made_of answer)
-    makes_load later answer observes pc held base offset known at_is =
-        subst (λ p. Makes Stands fits tid steps (exec_state_of (with_pc pc old) memory held) now (exec_state_of (with_pc p new) memory held) later (made_of answer))
-        (sym (behind_told pc answer))
+    pub makes_load : (later : O) (told : Answer) → IfOk (result_of told) (ObservesAfter Stands fits tid steps (Read tid first count) now later)
+        → MakesLoad Stands fits tid steps kind rd at memory old now new later (made_of told)
+    makes_load later told observes pc held base offset known at_is =
+        subst (λ p. Makes Stands fits tid steps (exec_state_of (with_pc pc old) memory held) now (exec_state_of (with_pc p new) memory held) later (made_of told))
+        (sym (behind_told pc told))
         (makes Stands fits closed fit tid steps (exec_state_of (with_pc pc old) memory held) now
         (exec_state_of (with_pc ((pc + 4) % 2 ^ 32) new) memory held) (Read tid first count) (Accessed (access.Read first count)) refl
-        (load_step pc held base offset known at_is) later answer observes)
+        (load_step pc held base offset known at_is) later told observes)
 
   pub stops_load : (error : FaultKind) → ((pc : ℕ) → (Fault error, with_pc pc new) ≡ loads kind rd at (memory_of memory) (with_pc pc old))
-      → MakesLoad Stands fits tid steps kind rd at memory old now new now (Ok made.Stops)
+      → MakesLoad Stands fits tid steps kind rd at memory old now new now made.Stops
   stops_load error faults pc held base offset known at_is =
       let here = exec_state_of (with_pc pc old) memory held in
       let there = exec_state_of (with_pc pc new) memory held in
@@ -157,17 +159,17 @@ module _ {O : Type 0} (Stands : O → List Event → Type 0) (fits : List Event 
         (exec_state_of (advanced may.r) memory' held') (Write tid first count) (Accessed (access.Write first count)) refl
         (store_step may.r may.from may.base may.offset may.known may.at_is may.n_is) may.may
 
-    pub makes_store : (later : O) (answer : Result Observed AllocError) → IfOk answer (ObservesAfter Stands fits tid steps (Write tid first count) now later)
-        → MakesStore Stands fits tid steps kind at n memory held now memory' held' later (made_of answer)
-    makes_store later answer observes r from base offset known at_is n_is =
-        subst (λ (s : Registers). Makes Stands fits tid steps (exec_state_of r memory held) now (exec_state_of s memory' held') later (made_of answer))
-        (sym (stored_told r answer))
+    pub makes_store : (later : O) (told : Answer) → IfOk (result_of told) (ObservesAfter Stands fits tid steps (Write tid first count) now later)
+        → MakesStore Stands fits tid steps kind at n memory held now memory' held' later (made_of told)
+    makes_store later told observes r from base offset known at_is n_is =
+        subst (λ (s : Registers). Makes Stands fits tid steps (exec_state_of r memory held) now (exec_state_of s memory' held') later (made_of told))
+        (sym (stored_told r told))
         (makes Stands fits closed fit tid steps (exec_state_of r memory held) now
         (exec_state_of (advanced r) memory' held') (Write tid first count) (Accessed (access.Write first count)) refl
-        (store_step r from base offset known at_is n_is) later answer observes)
+        (store_step r from base offset known at_is n_is) later told observes)
 
   pub stops_store : (error : FaultKind) → ((r : Registers) → (Fault error, exec_state_of r memory' held') ≡ stores tid kind at n (exec_state_of r memory held))
-      → MakesStore Stands fits tid steps kind at n memory held now memory' held' now (Ok made.Stops)
+      → MakesStore Stands fits tid steps kind at n memory held now memory' held' now made.Stops
   stops_store error faults r from base offset known at_is n_is =
       let here = exec_state_of r memory held in
       let there = exec_state_of r memory' held' in
@@ -177,28 +179,28 @@ module _ {O : Type 0} (Stands : O → List Event → Type 0) (fits : List Event 
       (λ accessed is. absurd (let no : Went accessed ≡ Fault error = sym is in cc)))
 
 -- ---- a row whose next step was made
-pub made_whole : (row new : StepRow) (answer : Result Made AllocError) → new ≡ made_row row answer → row.plain < row.left → new.told + new.left ≡ row.told + row.left
-made_whole row new (Ok made.Taken) is low = subst (λ (r : StepRow). r.told + r.left ≡ row.told + row.left) (sym is) (omega (arith, low))
-made_whole row new (Ok made.Refused) is low = subst (λ (r : StepRow). r.told + r.left ≡ row.told + row.left) (sym is) (omega (arith, low))
-made_whole row new (Ok made.Stops) is low = ap (λ (r : StepRow). r.told + r.left) is
-made_whole row new (Err e) is low = subst (λ (r : StepRow). r.told + r.left ≡ row.told + row.left) (sym is) (omega (arith, low))
+pub made_whole : (row new : Row) (answer : Made) → new ≡ made_row row answer → row.plain < row.left → new.told + new.left ≡ row.told + row.left
+made_whole row new made.Taken is low = subst (λ (r : Row). r.told + r.left ≡ row.told + row.left) (sym is) (omega (arith, low))
+made_whole row new made.Refused is low = subst (λ (r : Row). r.told + r.left ≡ row.told + row.left) (sym is) (omega (arith, low))
+made_whole row new made.Stops is low = ap (λ (r : Row). r.told + r.left) is
+made_whole row new made.OutOfMemory is low = subst (λ (r : Row). r.told + r.left ≡ row.told + row.left) (sym is) (omega (arith, low))
 
-pub made_grows : (row new : StepRow) (answer : Result Made AllocError) → new ≡ made_row row answer → row.told + row.plain ≤ new.told + new.plain
-made_grows row new (Ok made.Taken) is = subst (λ (r : StepRow). row.told + row.plain ≤ r.told + r.plain) (sym is) (omega arith)
-made_grows row new (Ok made.Refused) is = subst (λ (r : StepRow). row.told + row.plain ≤ r.told + r.plain) (sym is) (omega arith)
-made_grows row new (Ok made.Stops) is = subst (λ (r : StepRow). row.told + row.plain ≤ r.told + r.plain) (sym is) (omega arith)
-made_grows row new (Err e) is = subst (λ (r : StepRow). row.told + row.plain ≤ r.told + r.plain) (sym is) (omega arith)
+pub made_grows : (row new : Row) (answer : Made) → new ≡ made_row row answer → row.told + row.plain ≤ new.told + new.plain
+made_grows row new made.Taken is = subst (λ (r : Row). row.told + row.plain ≤ r.told + r.plain) (sym is) (omega arith)
+made_grows row new made.Refused is = subst (λ (r : Row). row.told + row.plain ≤ r.told + r.plain) (sym is) (omega arith)
+made_grows row new made.Stops is = subst (λ (r : Row). row.told + row.plain ≤ r.told + r.plain) (sym is) (omega arith)
+made_grows row new made.OutOfMemory is = subst (λ (r : Row). row.told + row.plain ≤ r.told + r.plain) (sym is) (omega arith)
 
-module _ {O : Type 0} (Stands : O → List Event → Type 0) (fits : List Event → Bool) (tid : ℕ) (row : StepRow) (low : row.plain < row.left)
+module _ {O : Type 0} (Stands : O → List Event → Type 0) (fits : List Event → Bool) (tid : ℕ) (row : Row) (low : row.plain < row.left)
     (here : ExecState) (now : O) where
   -- it may be made
   pub may_make : (first : ExecState) (old : O) (most : ℕ) → HasRun Stands fits tid first old most row here now → MayMake Stands fits tid (row.plain + 1) here now
   may_make first old most run = record { row = row; low = low; count = refl; run = record { first = first; old = old; most = most; run = run } }
 
   -- and is counted
-  pub counted : (there : ExecState) (later : O) (answer : Result Made AllocError) → Makes Stands fits tid (row.plain + 1) here now there later answer
-      → (new : StepRow) → new ≡ made_row row answer → (result : Result Further AllocError) → further_of result ≡ made_answer answer
+  pub counted : (there : ExecState) (later : O) (answer : Made) → Makes Stands fits tid (row.plain + 1) here now there later answer
+      → (new : Row) → new ≡ made_row row answer → (result : Further) → further_of result ≡ made_answer answer
       → RunsOn Stands fits tid row here now new there later (further_of result)
   counted there later answer makes new is result same first old most run =
-      subst (λ (r : StepRow). Runs Stands fits tid first old most r there later (further_of result)) (sym is)
+      subst (λ (r : Row). Runs Stands fits tid first old most r there later (further_of result)) (sym is)
       (subst (Runs Stands fits tid first old most (made_row row answer) there later) (sym same) (makes row low refl first old most run))

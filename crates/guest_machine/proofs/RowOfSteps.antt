@@ -6,18 +6,17 @@ use Rattle.trace_model.specs.declared.event_kinds.Event.{Event}
 use Rattle.trace_model.specs.declared.observer.Observed.{Observed}
 use Rattle.trace_model.specs.declared.observer.Observed.TheVariants.{Taken, Refused}
 use Rattle.trace_model.specs.Observing.{MayTakeAll, ObservesAll, StepsFit}
-use Rattle.guest_machine.specs.declared.rows.StepRow.{StepRow}
 use Rattle.guest_machine.specs.declared.stepped.Advanced.{Advanced}
 use Rattle.guest_machine.specs.declared.stepped.Advanced.TheVariants.{Ran}
 use Rattle.guest_machine.specs.Machine.{MachineState}
 use Rattle.guest_machine.specs.Private.Carrying.{GoesWith, IsStateOf, IsStepOf}
-use Rattle.guest_machine.specs.Private.Rows.{HasMade, HasRun, IsNext, Runs, handed}
+use Rattle.guest_machine.specs.Private.Rows.{handed, HasMade, HasRun, IsNext, Row, Runs}
 use Rattle.guest_machine.specs.Running.{after_steps}
 use Rattle.guest_machine.specs.Told.{IsInstruction, done_by, steps_of}
 use Rattle.guest_machine.proofs.Carried.{goes_none, goes_plainly, goes_then, may_take_then, observes_last, observes_more}
 
 module _ {O : Type 0} (Stands : O → List Event → Type 0) (fits : List Event → Bool) (fit : StepsFit fits) (tid : ℕ) (first : ExecState) (old : O) (most : ℕ)
-    (row : StepRow) (here : ExecState) (now : O) (run : HasRun Stands fits tid first old most row here now) where
+    (row : Row) (here : ExecState) (now : O) (run : HasRun Stands fits tid first old most row here now) where
   -- the row as it is was made
   pub made_so_far : HasMade tid first most row here
   made_so_far = record { carried = λ m is. (run.carried m is).carries; few = omega (arith, run.room, run.within) }
@@ -78,11 +77,11 @@ module _ {O : Type 0} (Stands : O → List Event → Type 0) (fits : List Event 
     runs_handed (Err e) later observes = made_handed
 
     -- the same, of a row and an answer that are these
-    pub runs_to : (new_row : StepRow) → new_row ≡ handed row → (result answer : Result Observed AllocError) → result ≡ answer → (later : O)
+    pub runs_to : (new_row : Row) → new_row ≡ handed row → (result answer : Result Observed AllocError) → result ≡ answer → (later : O)
         → IfOk result (ObservesAll Stands fits (steps_of tid (row.plain + 1) ++ done_by tid advanced) now later)
         → Runs Stands fits tid first old most new_row new later answer
     runs_to new_row is result answer same later observes =
-        subst (λ (r : StepRow). Runs Stands fits tid first old most r new later answer) (sym is)
+        subst (λ (r : Row). Runs Stands fits tid first old most r new later answer) (sym is)
         (subst (Runs Stands fits tid first old most (handed row) new later) same (runs_handed result later observes))
 
   -- a step that did nothing beside
@@ -101,11 +100,11 @@ module _ {O : Type 0} (Stands : O → List Event → Type 0) (fits : List Event 
   }
 
 -- the counts of a row after a step that was handed out
-pub handed_whole : (row new : StepRow) → new ≡ handed row → row.plain < row.left → new.told + new.left ≡ row.told + row.left
-handed_whole row new is low = subst (λ (r : StepRow). r.told + r.left ≡ row.told + row.left) (sym is) (omega (arith, low))
+pub handed_whole : (row new : Row) → new ≡ handed row → row.plain < row.left → new.told + new.left ≡ row.told + row.left
+handed_whole row new is low = subst (λ (r : Row). r.told + r.left ≡ row.told + row.left) (sym is) (omega (arith, low))
 
-pub handed_grows : (row new : StepRow) → new ≡ handed row → row.told + row.plain < new.told + new.plain
-handed_grows row new is = subst (λ (r : StepRow). row.told + row.plain < r.told + r.plain) (sym is) (omega arith)
+pub handed_grows : (row new : Row) → new ≡ handed row → row.told + row.plain < new.told + new.plain
+handed_grows row new is = subst (λ (r : Row). row.told + row.plain < r.told + r.plain) (sym is) (omega arith)
 
 -- what carrying out the next instruction says of it
 pub is_next : (here new : ExecState) (tid : ℕ) (next : Option Advanced) → IfSome next (IsStepOf here new tid) → IfNone next (new ≡ here) → IfSome next IsInstruction

@@ -1,6 +1,5 @@
 -- A load or a store of a word that is tried in the loop over known instructions.
-use Rattle.std.proofs.Common.{◌≡◌, ℕ, ℤ, ◌+◌, ◌%◌, ◌^◌, Bool, List, Result, Ok, ap, refl, sym, subst, ◌∙◌}
-use Rattle.std.specs.declared.alloc.AllocError.{AllocError}
+use Rattle.std.proofs.Common.{◌≡◌, ℕ, ℤ, ◌+◌, ◌%◌, ◌^◌, ap, refl, sym, subst, ◌∙◌}
 use Rattle.guest_memory.specs.Code.{IsInstructionAt}
 use Rattle.guest_memory.specs.Guest.{memory_of}
 use Rattle.guest_memory.specs.declared.memory.GuestMemory.{GuestMemory}
@@ -10,18 +9,13 @@ use Rattle.rv_isa.specs.declared.instruction.LoadKind.{LoadKind}
 use Rattle.rv_isa.specs.declared.instruction.LoadKind.TheVariants.{Lw}
 use Rattle.rv_isa.specs.declared.instruction.StoreKind.{StoreKind}
 use Rattle.rv_isa.specs.declared.instruction.StoreKind.TheVariants.{Sw}
-use Rattle.rv_exec.specs.Effects.{ExecState, advanced, exec_state_of, loads, on_registers, stores, value}
+use Rattle.rv_exec.specs.Effects.{advanced, exec_state_of, loads, on_registers, stores, value}
 use Rattle.rv_exec.specs.Operations.{add_offset}
 use Rattle.rv_exec.specs.Registers.{Registers, with_pc}
 use Rattle.rv_exec.specs.declared.outcome.Access.TheVariants as access
 use Rattle.rv_exec.specs.declared.outcome.Outcome.TheVariants.{Went}
-use Rattle.trace_model.specs.declared.event_kinds.Event.{Event}
-use Rattle.trace_model.specs.declared.observer.Observed.TheVariants as observed
 use Rattle.guest_machine.specs.declared.stepped.Advanced.TheVariants.{Accessed}
-use Rattle.guest_machine.specs.declared.rows.StepRow.{StepRow}
-use Rattle.guest_machine.specs.declared.rows.Tried.{Tried}
 use Rattle.guest_machine.specs.Private.Carrying.{IsStepOf}
-use Rattle.guest_machine.specs.Private.Rows.{Runs, RunsOn, tried_answer}
 use Rattle.guest_machine.proofs.MadeSteps.{step_accessed}
 
 -- the step of a load of a word
@@ -49,15 +43,3 @@ store_word_step tid at n memory memory' held first went r new passed kind from b
     (step_accessed here (exec_state_of (advanced r) memory' held) tid (Store Sw from base offset) (access.Write first 1)
     (subst (λ (k : StoreKind). IsInstructionAt (memory_of memory) r.pc (Store k from base offset)) is known)
     (went r tid ∙ ap (λ a. stores tid Sw a n here) at_is ∙ ap (λ k. stores tid Sw (add_offset (value r base) offset) k here) n_is) refl)
-
--- a row that led here leads on with what was tried
-pub runs_through : {O : Type 0} (Stands : O → List Event → Type 0) (fits fits' : List Event → Bool) → fits' ≡ fits → (tid : ℕ)
-    (row : StepRow) (begun : ExecState) (old : O) (mid_row : StepRow) (here : ExecState) (now : O)
-    → RunsOn Stands fits tid row begun old mid_row here now (Ok observed.Taken)
-    → (new_row : StepRow) (there : ExecState) (later : O) (result : Result Tried AllocError)
-    → RunsOn Stands fits' tid mid_row here now new_row there later (tried_answer result)
-    → (answer : Result Tried AllocError) → result ≡ answer → RunsOn Stands fits tid row begun old new_row there later (tried_answer answer)
-runs_through {O} Stands fits fits' same tid row begun old mid_row here now runs new_row there later result on answer is =
-    λ first began most run.
-    subst (λ (r : Result Tried AllocError). Runs Stands fits tid first began most new_row there later (tried_answer r)) is
-    (subst (λ (f : List Event → Bool). RunsOn Stands f tid mid_row here now new_row there later (tried_answer result)) same on first began most (runs first began most run))

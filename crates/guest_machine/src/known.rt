@@ -2,10 +2,8 @@
 ghost use Rattle.std.specs.Prelude.{◌≡◌, ◌%◌, ℕ, IfOk, IfSome, IfNone, OnErr};
 ghost use Rattle.guest_memory.specs.Code.{IsInstructionAt};
 ghost use Rattle.guest_memory.specs.Guest.{memory_of};
-ghost use Rattle.guest_memory.specs.declared.reservations.Reservations.{Reservations};
 ghost use Rattle.rv_exec.specs.Effects.{exec_state_of};
-ghost use Rattle.rv_exec.specs.Registers.{with_pc};
-ghost use Rattle.guest_machine.specs.Private.Carrying.{IsReadingOf, IsStateOf, IsStepOf};
+ghost use Rattle.guest_machine.specs.Private.Carrying.{IsStateOf, IsStepOf};
 ghost use Rattle.guest_machine.specs.Machine.{MachineState};
 ghost use Rattle.guest_machine.specs.Told.{IsInstruction};
 
@@ -13,7 +11,7 @@ use crate::Advanced;
 use crate::telling::told;
 use guest_memory::{GuestMemory, Reservations};
 use guest_words::{Addr, Tid};
-use rv_exec::{Counter, Cpu, Cursor, Outcome, execute, execute_reading};
+use rv_exec::{Cpu, Outcome, execute};
 use rv_isa::Instr;
 use std::alloc::AllocError;
 
@@ -75,40 +73,6 @@ pub(crate) fn carry_out(
         Outcome::Went { access } => Some(told(&instruction, access, cpu.pc, pc.wrapping_add(4))),
         Outcome::Fault { .. } => None,
         Outcome::Syscall => None,
-    }
-}
-
-/// What `carry_out_reading` did.
-pub(crate) enum Reading {
-    Went { advanced: Advanced },
-    // It may write, and was not carried out.
-    MayWrite,
-    // It is ECALL or faults.
-    Stops,
-}
-
-/// Carries out the instruction at `pc`, which stands in place of that in `cpu`, if it can't write, is not ECALL and does not
-/// fault; else nothing changes.
-#[inline(always)]
-pub(crate) fn carry_out_reading(
-    pc: &mut Cursor,
-    cpu: &mut Cpu,
-    memory: &GuestMemory,
-    instruction: &Instr,
-) -> Reading
-    requires { IsInstructionAt (memory_of memory.now) pc.old instruction.now }
-    ensures { (tid : ℕ) (held : Reservations)
-        → IsReadingOf (exec_state_of (with_pc pc.old cpu.old) memory.now held)
-        (exec_state_of (with_pc pc.new cpu.new) memory.now held) tid result }
-{
-    let at = pc.address();
-    match execute_reading(pc, cpu, memory, *instruction) {
-        Some(Outcome::Went { access }) => Reading::Went {
-            advanced: told(instruction, access, pc.address(), at.wrapping_add(4)),
-        },
-        Some(Outcome::Fault { .. }) => Reading::Stops,
-        Some(Outcome::Syscall) => Reading::Stops,
-        None => Reading::MayWrite,
     }
 }
 

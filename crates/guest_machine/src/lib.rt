@@ -18,6 +18,7 @@ mod setup;
 mod stack;
 mod start_memory;
 mod step_events;
+mod step_row;
 mod stepped;
 mod stepping;
 mod telling;

@@ -10,12 +10,12 @@ ghost use Rattle.rv_exec.specs.Effects.{exec_state_of};
 ghost use Rattle.rv_exec.specs.Registers.{with_pc};
 ghost use Rattle.guest_machine.specs.Private.Making.{Makes, MakesLoad, MakesStore, MayLoad, MayMake, MayStore, behind, made_of, stored};
 
+use crate::telling::{observe_words_read, observe_words_written};
 use guest_memory::{GuestMemory, Reservations};
 use guest_words::{Addr, Tid};
 use rv_exec::{Counter, Cpu, Cursor, add_offset, load_words, store_words};
 use rv_isa::{LoadKind, Reg, StoreKind};
-use std::alloc::AllocError;
-use trace_model::{Event, Observed, Observer};
+use trace_model::{Answer, Observer};
 
 /// What became of an instruction.
 #[derive(Clone, Copy)]
@@ -26,17 +26,19 @@ pub(crate) enum Made {
     Refused,
     // It faults, and changed nothing.
     Stops,
+    // It went, and memory for its event could not be allocated.
+    OutOfMemory,
 }
 
 // What became of an instruction that the observer was told of.
 #[inline(always)]
-fn made_by(observed: Result<Observed, AllocError>) -> Result<Made, AllocError>
-    ensures { result ≡ made_of observed }
+fn made_by(answer: Answer) -> Made
+    ensures { result ≡ made_of answer }
 {
-    match observed {
-        Ok(Observed::Taken) => Ok(Made::Taken),
-        Ok(Observed::Refused) => Ok(Made::Refused),
-        Err(e) => Err(e),
+    match answer {
+        Answer::Taken => Made::Taken,
+        Answer::Refused => Made::Refused,
+        Answer::OutOfMemory => Made::OutOfMemory,
     }
 }
 
@@ -51,7 +53,7 @@ fn load_and_tell<W: Observer>(
     at: Addr,
     steps: u64,
     observer: &mut W,
-) -> Result<Made, AllocError>
+) -> Made
     requires some { 1 ≤ steps }
     requires may { MayLoad W.stands (W.fits observer.old) tid steps kind rd at cpu.old memory.now observer.old }
     ensures made { MakesLoad W.stands (W.fits observer.old) tid steps kind rd at memory.now
@@ -59,10 +61,8 @@ fn load_and_tell<W: Observer>(
     ensures same { W.fits observer.new ≡ W.fits observer.old }
 {
     match load_words(cpu, memory, kind, rd, at) {
-        Ok((first, count)) => {
-            made_by(observer.observe_after(tid, steps, Event::Read { tid, first, count }))
-        }
-        Err(_) => Ok(Made::Stops),
+        Ok((first, count)) => made_by(observe_words_read(observer, tid, steps, first, count)),
+        Err(_) => Made::Stops,
     }
 }
 
@@ -76,7 +76,7 @@ fn load_word_and_tell<W: Observer>(
     at: Addr,
     steps: u64,
     observer: &mut W,
-) -> Result<Made, AllocError>
+) -> Made
     requires some { 1 ≤ steps }
     requires may { MayLoad W.stands (W.fits observer.old) tid steps Lw rd at cpu.old memory.now observer.old }
     ensures made { MakesLoad W.stands (W.fits observer.old) tid steps Lw rd at memory.now
@@ -97,7 +97,7 @@ fn load_part_and_tell<W: Observer>(
     at: Addr,
     steps: u64,
     observer: &mut W,
-) -> Result<Made, AllocError>
+) -> Made
     requires some { 1 ≤ steps }
     requires may { MayLoad W.stands (W.fits observer.old) tid steps kind rd at cpu.old memory.now observer.old }
     ensures made { MakesLoad W.stands (W.fits observer.old) tid steps kind rd at memory.now
@@ -124,7 +124,7 @@ fn load_any_and_tell<W: Observer>(
     at: Addr,
     steps: u64,
     observer: &mut W,
-) -> Result<Made, AllocError>
+) -> Made
     requires some { 1 ≤ steps }
     requires may { MayLoad W.stands (W.fits observer.old) tid steps kind rd at cpu.old memory.now observer.old }
     ensures made { MakesLoad W.stands (W.fits observer.old) tid steps kind rd at memory.now
@@ -139,12 +139,12 @@ fn load_any_and_tell<W: Observer>(
 
 // The program counter goes on behind an instruction that went.
 #[inline(always)]
-fn go_behind(pc: &mut Cursor, made: &Result<Made, AllocError>)
+fn go_behind(pc: &mut Cursor, made: &Made)
     ensures { pc.new ≡ behind pc.old made.now }
 {
     match *made {
-        Ok(Made::Stops) => {}
-        Ok(Made::Taken) | Ok(Made::Refused) | Err(_) => pc.pass(),
+        Made::Stops => {}
+        Made::Taken | Made::Refused | Made::OutOfMemory => pc.pass(),
     }
 }
 
@@ -162,7 +162,7 @@ pub(crate) fn make_load<W: Observer>(
     offset: i32,
     steps: u64,
     observer: &mut W,
-) -> Result<Made, AllocError>
+) -> Made
     requires some { 1 ≤ steps }
     requires known { IsInstructionAt (memory_of memory.now) pc.old (Load kind rd base offset) }
     requires may { (held : Reservations) × MayMake W.stands (W.fits observer.old) tid steps
@@ -189,7 +189,7 @@ fn store_and_tell<W: Observer>(
     n: u32,
     steps: u64,
     observer: &mut W,
-) -> Result<Made, AllocError>
+) -> Made
     requires some { 1 ≤ steps }
     requires may { MayStore W.stands (W.fits observer.old) tid steps kind at n memory.old held.old observer.old }
     ensures made { MakesStore W.stands (W.fits observer.old) tid steps kind at n
@@ -197,10 +197,8 @@ fn store_and_tell<W: Observer>(
     ensures same { W.fits observer.new ≡ W.fits observer.old }
 {
     match store_words(memory, held, tid, kind, at, n) {
-        Ok((first, count)) => {
-            made_by(observer.observe_after(tid, steps, Event::Write { tid, first, count }))
-        }
-        Err(_) => Ok(Made::Stops),
+        Ok((first, count)) => made_by(observe_words_written(observer, tid, steps, first, count)),
+        Err(_) => Made::Stops,
     }
 }
 
@@ -214,7 +212,7 @@ fn store_word_and_tell<W: Observer>(
     n: u32,
     steps: u64,
     observer: &mut W,
-) -> Result<Made, AllocError>
+) -> Made
     requires some { 1 ≤ steps }
     requires may { MayStore W.stands (W.fits observer.old) tid steps Sw at n memory.old held.old observer.old }
     ensures made { MakesStore W.stands (W.fits observer.old) tid steps Sw at n
@@ -235,7 +233,7 @@ fn store_part_and_tell<W: Observer>(
     n: u32,
     steps: u64,
     observer: &mut W,
-) -> Result<Made, AllocError>
+) -> Made
     requires some { 1 ≤ steps }
     requires may { MayStore W.stands (W.fits observer.old) tid steps kind at n memory.old held.old observer.old }
     ensures made { MakesStore W.stands (W.fits observer.old) tid steps kind at n
@@ -260,7 +258,7 @@ fn store_any_and_tell<W: Observer>(
     n: u32,
     steps: u64,
     observer: &mut W,
-) -> Result<Made, AllocError>
+) -> Made
     requires some { 1 ≤ steps }
     requires may { MayStore W.stands (W.fits observer.old) tid steps kind at n memory.old held.old observer.old }
     ensures made { MakesStore W.stands (W.fits observer.old) tid steps kind at n
@@ -275,12 +273,12 @@ fn store_any_and_tell<W: Observer>(
 
 // The thread goes on behind an instruction that went.
 #[inline(always)]
-fn advance_behind(cpu: &mut Cpu, made: &Result<Made, AllocError>)
+fn advance_behind(cpu: &mut Cpu, made: &Made)
     ensures { cpu.new ≡ stored cpu.old made.now }
 {
     match *made {
-        Ok(Made::Stops) => {}
-        Ok(Made::Taken) | Ok(Made::Refused) | Err(_) => cpu.advance(),
+        Made::Stops => {}
+        Made::Taken | Made::Refused | Made::OutOfMemory => cpu.advance(),
     }
 }
 
@@ -297,7 +295,7 @@ pub(crate) fn make_store<W: Observer>(
     offset: i32,
     steps: u64,
     observer: &mut W,
-) -> Result<Made, AllocError>
+) -> Made
     requires some { 1 ≤ steps }
     requires known { IsInstructionAt (memory_of memory.old) cpu.old.pc (Store kind value base offset) }
     requires may { MayMake W.stands (W.fits observer.old) tid steps

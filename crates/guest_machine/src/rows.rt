@@ -1,6 +1,6 @@
 //! Steps of one thread in a row, as long as their instructions can be known.
-ghost use Rattle.std.specs.Prelude.{◌≡◌, ◌≤◌, ◌<◌, ◌+◌, ◌%◌, ◌^◌, ◌++◌, ◌∷◌, [], Ok, IfOk, OnOk, length};
-ghost use Rattle.guest_memory.specs.Code.{IsCodeFrom, IsInstructionAt};
+ghost use Rattle.std.specs.Prelude.{◌≡◌, ◌≤◌, ◌<◌, ◌+◌, ◌%◌, ◌^◌, ◌++◌, ◌∷◌, [], IfOk, IfSome, OnOk, length};
+ghost use Rattle.guest_memory.specs.Code.{IsCodeFrom, IsInstructionAt, known_of};
 ghost use Rattle.guest_memory.specs.declared.reservations.Reservations.{Reservations};
 ghost use Rattle.rv_isa.specs.declared.instruction.Instr.{Instr};
 ghost use Rattle.rv_isa.specs.declared.instruction.Instr.TheVariants.{Load, Store};
@@ -9,55 +9,34 @@ ghost use Rattle.rv_exec.specs.Effects.{exec_state_of};
 ghost use Rattle.rv_exec.specs.Registers.{with_pc};
 ghost use Rattle.trace_model.specs.declared.event_kinds.Event.TheVariants.{Read, Write};
 ghost use Rattle.trace_model.specs.declared.observer.Observed.TheVariants.{Taken};
-ghost use Rattle.trace_model.specs.Observing.{MayTakeAll, ObservesAll};
-ghost use Rattle.guest_machine.specs.Private.Carrying.{Carries, IsStateOf, MayCarry, ObservesFrom};
+ghost use Rattle.trace_model.specs.Observing.{MayTakeAll, ObservesAll, result_of};
+ghost use Rattle.guest_machine.specs.Private.Carrying.{Carries, IsStateOf, JumpsTo, MayCarry, ObservesFrom};
 ghost use Rattle.guest_machine.specs.Private.Making.{made_answer, made_row};
 ghost use Rattle.guest_machine.specs.Private.Rows.{Counts, IsPaused, MayCount, MayRun, RunsOn, answer_of, further_of, handed, tried_answer, tried_row};
 ghost use Rattle.guest_machine.specs.Machine.{MachineState};
+ghost use Rattle.guest_machine.specs.Step.{jump_events};
 ghost use Rattle.guest_machine.specs.Told.{IsInstruction, done_by, steps_of};
 
 use crate::Advanced;
-use crate::known::{Reading, carry_out, carry_out_next, carry_out_reading};
+use crate::known::carry_out_next;
 use crate::making::{Made, make_load, make_store};
-use crate::telling::{observe_told, observe_word_read, observe_word_written};
+use crate::step_row::StepRow;
+use crate::telling::{observe_jump, observe_told, tell_word_read, tell_word_written};
+use call_tracker::{JumpKind, kind};
 use guest_memory::{Decoded, GuestMemory, Reservations, find_word};
 use guest_words::{Addr, Tid, Word};
-use rv_exec::{Counter, Cpu, Cursor, add_offset, execute_plain, load_word, store_word};
+use rv_exec::{
+    Counter, Cpu, Cursor, Outcome, add_offset, execute_plain, jump_and_link, load_word, store_word,
+};
 use rv_isa::{Instr, LoadKind, Reg, StoreKind};
 use std::alloc::AllocError;
-use trace_model::{Observed, Observer};
+use trace_model::{Answer, Observed, Observer};
 
 /// Steps of a thread that were made in a row: how many, and whether the observer took the events of the last.
 #[derive(Clone, Copy, Debug, PartialEq, Eq)]
 pub struct KnownSteps {
     pub count: u64,
     pub observed: Observed,
-}
-
-// How many steps of a thread were made in a row.
-#[derive(Clone, Copy)]
-struct StepRow {
-    // those that the observer has
-    told: u64,
-    // those after them, which it has yet to get: they accessed nothing, and were no calls and no returns
-    plain: u64,
-    // how many may follow those that the observer has, the plain ones included
-    left: u64,
-}
-
-impl StepRow {
-    // The row after a step that was handed out, with the plain ones before it.
-    #[inline(always)]
-    fn hand(&mut self)
-        requires within { self.old.plain < self.old.left }
-        requires range { self.old.told + self.old.left < 2 ^ 64 }
-        ensures { self.new ≡ handed self.old }
-    {
-        let steps = self.plain + 1;
-        self.told += steps;
-        self.plain = 0;
-        self.left -= steps;
-    }
 }
 
 // Hands out a step that also accessed memory, called or returned, with the plain ones before it.
@@ -67,64 +46,70 @@ fn hand_step<W: Observer>(
     tid: Tid,
     advanced: Advanced,
     observer: &mut W,
-) -> Result<Observed, AllocError>
+) -> Answer
     requires instruction { IsInstruction advanced }
     requires within { row.old.plain < row.old.left }
-    requires range { row.old.told + row.old.left < 2 ^ 64 }
     requires next { MayTakeAll W.stands (W.fits observer.old) observer.old
         (steps_of tid (row.old.plain + 1) ++ done_by tid advanced) }
     ensures row { row.new ≡ handed row.old }
-    ensures observed { IfOk result (ObservesAll W.stands (W.fits observer.old)
+    ensures observed { IfOk (result_of result) (ObservesAll W.stands (W.fits observer.old)
         (steps_of tid (row.old.plain + 1) ++ done_by tid advanced) observer.old observer.new) }
     ensures same { W.fits observer.new ≡ W.fits observer.old }
 {
-    let steps = row.plain + 1;
-    row.hand();
-    observe_told(tid, steps, advanced, observer)
+    let steps = row.hand();
+    Answer::of(observe_told(tid, steps, advanced, observer))
+}
+
+// The same for a step that called or returned.
+#[inline(always)]
+fn hand_jump<W: Observer>(
+    row: &mut StepRow,
+    tid: Tid,
+    jump: JumpKind,
+    target: Addr,
+    back: Addr,
+    observer: &mut W,
+) -> Answer
+    requires within { row.old.plain < row.old.left }
+    requires next { MayTakeAll W.stands (W.fits observer.old) observer.old
+        (steps_of tid (row.old.plain + 1) ++ jump_events jump tid target back) }
+    ensures row { row.new ≡ handed row.old }
+    ensures observed { IfOk (result_of result) (ObservesAll W.stands (W.fits observer.old)
+        (steps_of tid (row.old.plain + 1) ++ jump_events jump tid target back) observer.old observer.new) }
+    ensures same { W.fits observer.new ≡ W.fits observer.old }
+{
+    let steps = row.hand();
+    Answer::of(observe_jump(tid, steps, jump, target, back, observer))
 }
 
 // The same for a step that read one word.
 #[inline(always)]
-fn hand_read<W: Observer>(
-    row: &mut StepRow,
-    tid: Tid,
-    first: Word,
-    observer: &mut W,
-) -> Result<Observed, AllocError>
+fn hand_read<W: Observer>(row: &mut StepRow, tid: Tid, first: Word, observer: &mut W) -> Answer
     requires within { row.old.plain < row.old.left }
-    requires range { row.old.told + row.old.left < 2 ^ 64 }
     requires next { MayTakeAll W.stands (W.fits observer.old) observer.old
         (steps_of tid (row.old.plain + 1) ++ Read tid first 1 ∷ []) }
     ensures row { row.new ≡ handed row.old }
-    ensures observed { IfOk result (ObservesAll W.stands (W.fits observer.old)
+    ensures observed { IfOk (result_of result) (ObservesAll W.stands (W.fits observer.old)
         (steps_of tid (row.old.plain + 1) ++ Read tid first 1 ∷ []) observer.old observer.new) }
     ensures same { W.fits observer.new ≡ W.fits observer.old }
 {
-    let steps = row.plain + 1;
-    row.hand();
-    observe_word_read(tid, steps, first, observer)
+    let steps = row.hand();
+    tell_word_read(observer, tid, steps, first)
 }
 
 // The same for a step that wrote one word.
 #[inline(always)]
-fn hand_write<W: Observer>(
-    row: &mut StepRow,
-    tid: Tid,
-    first: Word,
-    observer: &mut W,
-) -> Result<Observed, AllocError>
+fn hand_write<W: Observer>(row: &mut StepRow, tid: Tid, first: Word, observer: &mut W) -> Answer
     requires within { row.old.plain < row.old.left }
-    requires range { row.old.told + row.old.left < 2 ^ 64 }
     requires next { MayTakeAll W.stands (W.fits observer.old) observer.old
         (steps_of tid (row.old.plain + 1) ++ Write tid first 1 ∷ []) }
     ensures row { row.new ≡ handed row.old }
-    ensures observed { IfOk result (ObservesAll W.stands (W.fits observer.old)
+    ensures observed { IfOk (result_of result) (ObservesAll W.stands (W.fits observer.old)
         (steps_of tid (row.old.plain + 1) ++ Write tid first 1 ∷ []) observer.old observer.new) }
     ensures same { W.fits observer.new ≡ W.fits observer.old }
 {
-    let steps = row.plain + 1;
-    row.hand();
-    observe_word_written(tid, steps, first, observer)
+    let steps = row.hand();
+    tell_word_written(observer, tid, steps, first)
 }
 
 // What became of a load or a store that was tried in the loop itself.
@@ -135,6 +120,8 @@ enum Tried {
     Refused,
     // It is left to the function for any load or store, and nothing changed.
     Declined,
+    // It went, and memory for its event could not be allocated.
+    OutOfMemory,
 }
 
 // Makes the next step of a row if it loads a word within a page that can be read. Each answer is made where it is known: the
@@ -151,33 +138,32 @@ fn try_load<W: Observer>(
     offset: i32,
     row: &mut StepRow,
     observer: &mut W,
-) -> Result<Tried, AllocError>
+) -> Tried
     requires known { IsInstructionAt (memory_of memory.now) pc.old (Load kind rd base offset) }
     requires run { (held : Reservations) × MayRun W.stands (W.fits observer.old) tid row.old
         (exec_state_of (with_pc pc.old cpu.old) memory.now held) observer.old }
     requires within { row.old.plain < row.old.left }
-    requires range { row.old.told + row.old.left < 2 ^ 64 }
     ensures runs { (held : Reservations) → RunsOn W.stands (W.fits observer.old) tid
         row.old (exec_state_of (with_pc pc.old cpu.old) memory.now held) observer.old
         row.new (exec_state_of (with_pc pc.new cpu.new) memory.now held) observer.new
         (tried_answer result) }
     ensures row { row.new ≡ tried_row row.old result }
-    ensures again { result ≡ Ok Tried.Declined
+    ensures again { result ≡ Tried.Declined
         → IsInstructionAt (memory_of memory.now) pc.new (Load kind rd base offset) }
     ensures same { W.fits observer.new ≡ W.fits observer.old }
 {
     let LoadKind::Lw = kind else {
-        return Ok(Tried::Declined);
+        return Tried::Declined;
     };
     let at = add_offset(cpu.value(base), offset);
     let Some(first) = load_word(cpu, memory, rd, at) else {
-        return Ok(Tried::Declined);
+        return Tried::Declined;
     };
     pc.pass();
     match hand_read(row, tid, first, observer) {
-        Ok(Observed::Taken) => Ok(Tried::Taken),
-        Ok(Observed::Refused) => Ok(Tried::Refused),
-        Err(e) => Err(e),
+        Answer::Taken => Tried::Taken,
+        Answer::Refused => Tried::Refused,
+        Answer::OutOfMemory => Tried::OutOfMemory,
     }
 }
 
@@ -194,47 +180,53 @@ fn try_store<W: Observer>(
     offset: i32,
     row: &mut StepRow,
     observer: &mut W,
-) -> Result<Tried, AllocError>
+) -> Tried
     requires known { IsInstructionAt (memory_of memory.old) cpu.old.pc (Store kind value base offset) }
     requires run { MayRun W.stands (W.fits observer.old) tid row.old
         (exec_state_of cpu.old memory.old held.now) observer.old }
     requires within { row.old.plain < row.old.left }
-    requires range { row.old.told + row.old.left < 2 ^ 64 }
     ensures runs { RunsOn W.stands (W.fits observer.old) tid
         row.old (exec_state_of cpu.old memory.old held.now) observer.old
         row.new (exec_state_of cpu.new memory.new held.now) observer.new (tried_answer result) }
     ensures row { row.new ≡ tried_row row.old result }
-    ensures again { result ≡ Ok Tried.Declined
+    ensures again { result ≡ Tried.Declined
         → IsInstructionAt (memory_of memory.new) cpu.new.pc (Store kind value base offset) }
     ensures same { W.fits observer.new ≡ W.fits observer.old }
 {
     let StoreKind::Sw = kind else {
-        return Ok(Tried::Declined);
+        return Tried::Declined;
     };
     let at = add_offset(cpu.value(base), offset);
     let Some(first) = store_word(memory, held, at, cpu.value(value)) else {
-        return Ok(Tried::Declined);
+        return Tried::Declined;
     };
     cpu.advance();
     match hand_write(row, tid, first, observer) {
-        Ok(Observed::Taken) => Ok(Tried::Taken),
-        Ok(Observed::Refused) => Ok(Tried::Refused),
-        Err(e) => Err(e),
+        Answer::Taken => Tried::Taken,
+        Answer::Refused => Tried::Refused,
+        Answer::OutOfMemory => Tried::OutOfMemory,
     }
 }
 
-// Why the steps within a page of code end.
+// What became of the next step within a page of code, or why the steps within it end.
 enum Paused {
-    // All were made.
-    Done,
+    // It was made, or all were.
+    Went,
     // The observer refused an event of the last.
     Refused,
-    // The next instruction may write.
-    MayWrite { instruction: Instr },
+    // The next instruction stores.
+    Store {
+        kind: StoreKind,
+        value: Reg,
+        base: Reg,
+        offset: i32,
+    },
     // The next instruction is not known to be in the page.
     Elsewhere,
     // The next instruction is ECALL or faults.
     Stops,
+    // Memory for an event of the last could not be allocated.
+    OutOfMemory,
 }
 
 // Whether a row of steps goes on.
@@ -244,32 +236,278 @@ enum Further {
     Refused,
     // The next instruction is not known, or can't go on.
     Stopped,
+    // Memory for an event of the last step, or for what is known of code, could not be allocated.
+    OutOfMemory,
 }
 
 // Counts the next step of a row, by what became of it.
 #[inline(always)]
-fn count_made(row: &mut StepRow, made: Result<Made, AllocError>) -> Result<Further, AllocError>
+fn count_made(row: &mut StepRow, made: Made) -> Further
     requires within { row.old.plain < row.old.left }
-    requires range { row.old.told + row.old.left < 2 ^ 64 }
     ensures row { row.new ≡ made_row row.old made }
     ensures further { further_of result ≡ made_answer made }
-    ensures grows { IfOk result (λ further. further ≡ Further.Went
-        → row.old.told + row.old.plain < row.new.told + row.new.plain) }
+    ensures grows { result ≡ Further.Went
+        → row.old.told + row.old.plain < row.new.told + row.new.plain }
 {
+    if let Made::Stops = made {
+        return Further::Stopped;
+    }
+    let _ = row.hand();
     match made {
-        Ok(Made::Taken) => {
-            row.hand();
-            Ok(Further::Went)
+        Made::Taken => Further::Went,
+        Made::Refused => Further::Refused,
+        Made::OutOfMemory => Further::OutOfMemory,
+        Made::Stops => Further::Stopped,
+    }
+}
+
+// Makes the next step of a row, which is a load, apart from the loop.
+#[inline(always)]
+fn run_part<W: Observer>(
+    pc: &mut Cursor,
+    cpu: &mut Cpu,
+    memory: &GuestMemory,
+    tid: Tid,
+    kind: LoadKind,
+    rd: Reg,
+    base: Reg,
+    offset: i32,
+    row: &mut StepRow,
+    observer: &mut W,
+) -> Paused
+    requires known { IsInstructionAt (memory_of memory.now) pc.old (Load kind rd base offset) }
+    requires run { (held : Reservations) × MayRun W.stands (W.fits observer.old) tid row.old
+        (exec_state_of (with_pc pc.old cpu.old) memory.now held) observer.old }
+    requires within { row.old.plain < row.old.left }
+    ensures runs { (held : Reservations) → RunsOn W.stands (W.fits observer.old) tid
+        row.old (exec_state_of (with_pc pc.old cpu.old) memory.now held) observer.old
+        row.new (exec_state_of (with_pc pc.new cpu.new) memory.now held) observer.new
+        (answer_of result) }
+    ensures next { IsPaused (memory_of memory.now) pc.new row.new result }
+    ensures grows { row.old.told + row.old.plain ≤ row.new.told + row.new.plain }
+    ensures further { result ≡ Paused.Went → row.old.told + row.old.plain < row.new.told + row.new.plain }
+    ensures whole { row.new.told + row.new.left ≡ row.old.told + row.old.left }
+    ensures same { W.fits observer.new ≡ W.fits observer.old }
+{
+    let steps = row.due();
+    let made = make_load(
+        pc, cpu, memory, tid, kind, rd, base, offset, steps, observer,
+    );
+    match count_made(row, made) {
+        Further::Went => Paused::Went,
+        Further::Refused => Paused::Refused,
+        Further::Stopped => Paused::Stops,
+        Further::OutOfMemory => Paused::OutOfMemory,
+    }
+}
+
+// Makes the next step of a row, which is a load: one of a word mostly in the loop itself.
+#[inline(always)]
+fn run_load<W: Observer>(
+    pc: &mut Cursor,
+    cpu: &mut Cpu,
+    memory: &GuestMemory,
+    tid: Tid,
+    kind: LoadKind,
+    rd: Reg,
+    base: Reg,
+    offset: i32,
+    row: &mut StepRow,
+    observer: &mut W,
+) -> Paused
+    requires known { IsInstructionAt (memory_of memory.now) pc.old (Load kind rd base offset) }
+    requires run { (held : Reservations) × MayRun W.stands (W.fits observer.old) tid row.old
+        (exec_state_of (with_pc pc.old cpu.old) memory.now held) observer.old }
+    requires within { row.old.plain < row.old.left }
+    ensures runs { (held : Reservations) → RunsOn W.stands (W.fits observer.old) tid
+        row.old (exec_state_of (with_pc pc.old cpu.old) memory.now held) observer.old
+        row.new (exec_state_of (with_pc pc.new cpu.new) memory.now held) observer.new
+        (answer_of result) }
+    ensures next { IsPaused (memory_of memory.now) pc.new row.new result }
+    ensures grows { row.old.told + row.old.plain ≤ row.new.told + row.new.plain }
+    ensures further { result ≡ Paused.Went → row.old.told + row.old.plain < row.new.told + row.new.plain }
+    ensures whole { row.new.told + row.new.left ≡ row.old.told + row.old.left }
+    ensures same { W.fits observer.new ≡ W.fits observer.old }
+{
+    match try_load(pc, cpu, memory, tid, kind, rd, base, offset, row, observer) {
+        Tried::Taken => Paused::Went,
+        Tried::Refused => Paused::Refused,
+        Tried::OutOfMemory => Paused::OutOfMemory,
+        Tried::Declined => run_part(pc, cpu, memory, tid, kind, rd, base, offset, row, observer),
+    }
+}
+
+// Makes the next step of a row, which is a jump to the target that leaves the way back in a register.
+#[inline(always)]
+fn run_jump<W: Observer>(
+    pc: &mut Cursor,
+    cpu: &mut Cpu,
+    memory: &GuestMemory,
+    tid: Tid,
+    rd: Reg,
+    target: Addr,
+    jump: JumpKind,
+    row: &mut StepRow,
+    observer: &mut W,
+) -> Paused
+    requires known { (i : Instr) × IsInstructionAt (memory_of memory.now) pc.old i × JumpsTo i (with_pc pc.old cpu.old) rd target jump }
+    requires run { (held : Reservations) × MayRun W.stands (W.fits observer.old) tid row.old
+        (exec_state_of (with_pc pc.old cpu.old) memory.now held) observer.old }
+    requires within { row.old.plain < row.old.left }
+    ensures runs { (held : Reservations) → RunsOn W.stands (W.fits observer.old) tid
+        row.old (exec_state_of (with_pc pc.old cpu.old) memory.now held) observer.old
+        row.new (exec_state_of (with_pc pc.new cpu.new) memory.now held) observer.new
+        (answer_of result) }
+    ensures next { IsPaused (memory_of memory.now) pc.new row.new result }
+    ensures grows { row.old.told + row.old.plain ≤ row.new.told + row.new.plain }
+    ensures further { result ≡ Paused.Went → row.old.told + row.old.plain < row.new.told + row.new.plain }
+    ensures whole { row.new.told + row.new.left ≡ row.old.told + row.old.left }
+    ensures same { W.fits observer.new ≡ W.fits observer.old }
+{
+    let _ = memory; // of which the contract speaks
+    let back = pc.address().wrapping_add(4);
+    let Outcome::Went { .. } = jump_and_link(pc, cpu, rd, target) else {
+        return Paused::Stops;
+    };
+    if let JumpKind::Nothing = jump {
+        row.pass();
+        return Paused::Went;
+    }
+    match hand_jump(row, tid, jump, target, back, observer) {
+        Answer::Taken => Paused::Went,
+        Answer::Refused => Paused::Refused,
+        Answer::OutOfMemory => Paused::OutOfMemory,
+    }
+}
+
+// Makes the next step of a row if its instruction loads, or links the way back. If it stores, it says so; another one is left
+// to the function for any instruction.
+#[inline(always)]
+fn run_decoded<W: Observer>(
+    pc: &mut Cursor,
+    cpu: &mut Cpu,
+    memory: &GuestMemory,
+    tid: Tid,
+    decoded: &Decoded,
+    row: &mut StepRow,
+    observer: &mut W,
+) -> Paused
+    requires known { IfSome (known_of decoded.now) (IsInstructionAt (memory_of memory.now) pc.old) }
+    requires run { (held : Reservations) × MayRun W.stands (W.fits observer.old) tid row.old
+        (exec_state_of (with_pc pc.old cpu.old) memory.now held) observer.old }
+    requires within { row.old.plain < row.old.left }
+    ensures runs { (held : Reservations) → RunsOn W.stands (W.fits observer.old) tid
+        row.old (exec_state_of (with_pc pc.old cpu.old) memory.now held) observer.old
+        row.new (exec_state_of (with_pc pc.new cpu.new) memory.now held) observer.new
+        (answer_of result) }
+    ensures next { IsPaused (memory_of memory.now) pc.new row.new result }
+    ensures grows { row.old.told + row.old.plain ≤ row.new.told + row.new.plain }
+    ensures further { result ≡ Paused.Went → row.old.told + row.old.plain < row.new.told + row.new.plain }
+    ensures whole { row.new.told + row.new.left ≡ row.old.told + row.old.left }
+    ensures same { W.fits observer.new ≡ W.fits observer.old }
+{
+    match *decoded {
+        Decoded::Jal { rd, offset } => {
+            let jump = kind(Instr::Jal { rd, offset });
+            let target = add_offset(pc.address(), offset);
+            run_jump(pc, cpu, memory, tid, rd, target, jump, row, observer)
         }
-        Ok(Made::Refused) => {
-            row.hand();
-            Ok(Further::Refused)
+        Decoded::Jalr { rd, base, offset } => {
+            let jump = kind(Instr::Jalr { rd, base, offset });
+            let target = add_offset(cpu.value(base), offset) / 2 * 2;
+            run_jump(pc, cpu, memory, tid, rd, target, jump, row, observer)
         }
-        Ok(Made::Stops) => Ok(Further::Stopped),
-        Err(e) => {
-            row.hand();
-            Err(e)
-        }
+        Decoded::Lb { rd, base, offset } => run_part(
+            pc,
+            cpu,
+            memory,
+            tid,
+            LoadKind::Lb,
+            rd,
+            base,
+            offset,
+            row,
+            observer,
+        ),
+        Decoded::Lh { rd, base, offset } => run_part(
+            pc,
+            cpu,
+            memory,
+            tid,
+            LoadKind::Lh,
+            rd,
+            base,
+            offset,
+            row,
+            observer,
+        ),
+        Decoded::Lw { rd, base, offset } => run_load(
+            pc,
+            cpu,
+            memory,
+            tid,
+            LoadKind::Lw,
+            rd,
+            base,
+            offset,
+            row,
+            observer,
+        ),
+        Decoded::Lbu { rd, base, offset } => run_part(
+            pc,
+            cpu,
+            memory,
+            tid,
+            LoadKind::Lbu,
+            rd,
+            base,
+            offset,
+            row,
+            observer,
+        ),
+        Decoded::Lhu { rd, base, offset } => run_part(
+            pc,
+            cpu,
+            memory,
+            tid,
+            LoadKind::Lhu,
+            rd,
+            base,
+            offset,
+            row,
+            observer,
+        ),
+        Decoded::Sb {
+            value,
+            base,
+            offset,
+        } => Paused::Store {
+            kind: StoreKind::Sb,
+            value,
+            base,
+            offset,
+        },
+        Decoded::Sh {
+            value,
+            base,
+            offset,
+        } => Paused::Store {
+            kind: StoreKind::Sh,
+            value,
+            base,
+            offset,
+        },
+        Decoded::Sw {
+            value,
+            base,
+            offset,
+        } => Paused::Store {
+            kind: StoreKind::Sw,
+            value,
+            base,
+            offset,
+        },
+        _ => Paused::Elsewhere,
     }
 }
 
@@ -286,89 +524,54 @@ fn run_page<W: Observer>(
     code: &[Decoded],
     row: &mut StepRow,
     observer: &mut W,
-) -> Result<Paused, AllocError>
+) -> Paused
     requires first { first % 4096 ≡ 0 }
     requires whole { length code.now ≡ 1024 }
     requires code { IsCodeFrom (memory_of memory.now) first code.now }
     requires run { MayRun W.stands (W.fits observer.old) tid row.old
         (exec_state_of (with_pc pc.old cpu.old) memory.now held.now) observer.old }
-    requires range { row.old.told + row.old.left < 2 ^ 64 }
     ensures runs { RunsOn W.stands (W.fits observer.old) tid
         row.old (exec_state_of (with_pc pc.old cpu.old) memory.now held.now) observer.old
         row.new (exec_state_of (with_pc pc.new cpu.new) memory.now held.now) observer.new
         (answer_of result) }
-    ensures next { IfOk result (IsPaused (memory_of memory.now) pc.new row.new) }
+    ensures next { IsPaused (memory_of memory.now) pc.new row.new result }
+    ensures went { result ≡ Paused.Went → row.new.left ≤ row.new.plain }
     ensures grows { row.old.told + row.old.plain ≤ row.new.told + row.new.plain }
     ensures same { W.fits observer.new ≡ W.fits observer.old }
 {
-    'steps: while row.plain < row.left {
+    'steps: while row.goes_on() {
         let Some(word) = pc.word_from(first) else {
-            return Ok(Paused::Elsewhere);
+            return Paused::Elsewhere;
         };
         let Some(decoded) = find_word(first, code, word) else {
-            return Ok(Paused::Elsewhere);
+            return Paused::Elsewhere;
         };
         if execute_plain(pc, cpu, decoded) {
-            row.plain += 1;
+            row.pass();
             continue;
         }
-        let Some(instruction) = decoded.instruction() else {
-            return Ok(Paused::Elsewhere);
-        };
-        match instruction {
-            Instr::Store {
+        match run_decoded(pc, cpu, memory, tid, &decoded, row, observer) {
+            Paused::Went => {}
+            Paused::Refused => return Paused::Refused,
+            Paused::Store {
                 kind,
                 value,
                 base,
                 offset,
             } => {
-                // made of its parts, so that the compiler keeps these alone in the loop
-                let instruction = Instr::Store {
+                return Paused::Store {
                     kind,
                     value,
                     base,
                     offset,
                 };
-                return Ok(Paused::MayWrite { instruction });
             }
-            Instr::Load {
-                kind,
-                rd,
-                base,
-                offset,
-            } => {
-                match try_load(pc, cpu, memory, tid, kind, rd, base, offset, row, observer) {
-                    Ok(Tried::Taken) => continue 'steps,
-                    Ok(Tried::Refused) => return Ok(Paused::Refused),
-                    Ok(Tried::Declined) => {}
-                    Err(e) => return Err(e),
-                }
-                let steps = row.plain + 1;
-                let made = make_load(
-                    pc, cpu, memory, tid, kind, rd, base, offset, steps, observer,
-                );
-                match count_made(row, made) {
-                    Ok(Further::Went) => {}
-                    Ok(Further::Refused) => return Ok(Paused::Refused),
-                    Ok(Further::Stopped) => return Ok(Paused::Stops),
-                    Err(e) => return Err(e),
-                }
-            }
-            _ => match carry_out_reading(pc, cpu, memory, &instruction) {
-                Reading::Went { advanced } => match advanced {
-                    Advanced::Ran => row.plain += 1,
-                    acted => match hand_step(row, tid, acted, observer) {
-                        Ok(Observed::Taken) => {}
-                        Ok(Observed::Refused) => return Ok(Paused::Refused),
-                        Err(e) => return Err(e),
-                    },
-                },
-                Reading::MayWrite => return Ok(Paused::Elsewhere),
-                Reading::Stops => return Ok(Paused::Stops),
-            },
+            Paused::Elsewhere => return Paused::Elsewhere,
+            Paused::Stops => return Paused::Stops,
+            Paused::OutOfMemory => return Paused::OutOfMemory,
         }
     }
-    Ok(Paused::Done)
+    Paused::Went
 }
 
 // Makes the steps of a row that lie in the page of code at the place, as long as they can't write.
@@ -381,20 +584,20 @@ fn run_page_at<W: Observer>(
     place: usize,
     row: &mut StepRow,
     observer: &mut W,
-) -> Result<Paused, AllocError>
+) -> Paused
     requires run { MayRun W.stands (W.fits observer.old) tid row.old
         (exec_state_of cpu.old memory.now held.now) observer.old }
     requires within { row.old.plain < row.old.left }
-    requires range { row.old.told + row.old.left < 2 ^ 64 }
     ensures runs { RunsOn W.stands (W.fits observer.old) tid
         row.old (exec_state_of cpu.old memory.now held.now) observer.old
         row.new (exec_state_of cpu.new memory.now held.now) observer.new (answer_of result) }
-    ensures next { IfOk result (IsPaused (memory_of memory.now) cpu.new.pc row.new) }
+    ensures next { IsPaused (memory_of memory.now) cpu.new.pc row.new result }
+    ensures went { result ≡ Paused.Went → row.new.left ≤ row.new.plain }
     ensures grows { row.old.told + row.old.plain ≤ row.new.told + row.new.plain }
     ensures same { W.fits observer.new ≡ W.fits observer.old }
 {
     let Some(page) = memory.code_page(place) else {
-        return Ok(Paused::Elsewhere);
+        return Paused::Elsewhere;
     };
     let (first, code) = page.parts();
     let mut pc = Cursor::new(first, cpu.pc);
@@ -410,28 +613,67 @@ fn count_next<W: Observer>(
     tid: Tid,
     next: Option<Advanced>,
     observer: &mut W,
-) -> Result<Further, AllocError>
+) -> Further
     requires step { MayCount W.stands (W.fits observer.old) tid row.old next observer.old }
     requires within { row.old.plain < row.old.left }
-    requires range { row.old.told + row.old.left < 2 ^ 64 }
     ensures counts { Counts W.stands (W.fits observer.old) tid row.old next observer.old
         row.new observer.new (further_of result) }
-    ensures grows { IfOk result (λ further. further ≡ Further.Went
-        → row.old.told + row.old.plain < row.new.told + row.new.plain) }
+    ensures grows { result ≡ Further.Went
+        → row.old.told + row.old.plain < row.new.told + row.new.plain }
     ensures same { W.fits observer.new ≡ W.fits observer.old }
 {
     match next {
-        None => Ok(Further::Stopped),
+        None => Further::Stopped,
         Some(Advanced::Ran) => {
-            row.plain += 1;
-            Ok(Further::Went)
+            row.pass();
+            Further::Went
         }
         Some(acted) => match hand_step(row, tid, acted, observer) {
-            Ok(Observed::Taken) => Ok(Further::Went),
-            Ok(Observed::Refused) => Ok(Further::Refused),
-            Err(e) => Err(e),
+            Answer::Taken => Further::Went,
+            Answer::Refused => Further::Refused,
+            Answer::OutOfMemory => Further::OutOfMemory,
         },
     }
+}
+
+// Makes the next step of a row, which is a store.
+#[inline(always)]
+fn run_store<W: Observer>(
+    cpu: &mut Cpu,
+    memory: &mut GuestMemory,
+    held: &mut Reservations,
+    tid: Tid,
+    kind: StoreKind,
+    value: Reg,
+    base: Reg,
+    offset: i32,
+    row: &mut StepRow,
+    observer: &mut W,
+) -> Further
+    requires known { IsInstructionAt (memory_of memory.old) cpu.old.pc (Store kind value base offset) }
+    requires run { MayRun W.stands (W.fits observer.old) tid row.old
+        (exec_state_of cpu.old memory.old held.old) observer.old }
+    requires within { row.old.plain < row.old.left }
+    ensures runs { RunsOn W.stands (W.fits observer.old) tid
+        row.old (exec_state_of cpu.old memory.old held.old) observer.old
+        row.new (exec_state_of cpu.new memory.new held.new) observer.new (further_of result) }
+    ensures grows { result ≡ Further.Went
+        → row.old.told + row.old.plain < row.new.told + row.new.plain }
+    ensures same { W.fits observer.new ≡ W.fits observer.old }
+{
+    match try_store(
+        cpu, memory, held, tid, kind, value, base, offset, row, observer,
+    ) {
+        Tried::Taken => return Further::Went,
+        Tried::Refused => return Further::Refused,
+        Tried::OutOfMemory => return Further::OutOfMemory,
+        Tried::Declined => {}
+    }
+    let steps = row.due();
+    let made = make_store(
+        cpu, memory, held, tid, kind, value, base, offset, steps, observer,
+    );
+    count_made(row, made)
 }
 
 // Makes the next steps of a row: those within the page of code at the place, and one more if there are none or if it may write.
@@ -444,60 +686,42 @@ fn run_further<W: Observer>(
     place: &mut usize,
     row: &mut StepRow,
     observer: &mut W,
-) -> Result<Further, AllocError>
+) -> Further
     requires run { MayRun W.stands (W.fits observer.old) tid row.old
         (exec_state_of cpu.old memory.old held.old) observer.old }
     requires within { row.old.plain < row.old.left }
-    requires range { row.old.told + row.old.left < 2 ^ 64 }
     ensures runs { RunsOn W.stands (W.fits observer.old) tid
         row.old (exec_state_of cpu.old memory.old held.old) observer.old
         row.new (exec_state_of cpu.new memory.new held.new) observer.new (further_of result) }
-    ensures grows { IfOk result (λ further. further ≡ Further.Went
-        → row.old.told + row.old.plain < row.new.told + row.new.plain) }
+    ensures grows { result ≡ Further.Went
+        → row.old.told + row.old.plain < row.new.told + row.new.plain }
     ensures same { W.fits observer.new ≡ W.fits observer.old }
 {
-    let before = row.told + row.plain;
+    let before = row.made();
     match run_page_at(cpu, memory, held, tid, *place, row, observer) {
-        Ok(Paused::Done) => Ok(Further::Went),
-        Ok(Paused::Refused) => Ok(Further::Refused),
-        Ok(Paused::Stops) => Ok(Further::Stopped),
-        Ok(Paused::MayWrite { instruction }) => match instruction {
-            Instr::Store {
-                kind,
-                value,
-                base,
-                offset,
-            } => match try_store(
-                cpu, memory, held, tid, kind, value, base, offset, row, observer,
-            ) {
-                Ok(Tried::Taken) => Ok(Further::Went),
-                Ok(Tried::Refused) => Ok(Further::Refused),
-                Ok(Tried::Declined) => {
-                    let steps = row.plain + 1;
-                    let made = make_store(
-                        cpu, memory, held, tid, kind, value, base, offset, steps, observer,
-                    );
-                    count_made(row, made)
-                }
-                Err(e) => Err(e),
-            },
-            _ => {
-                let next = carry_out(cpu, memory, held, tid, instruction);
-                count_next(row, tid, next, observer)
-            }
-        },
-        Ok(Paused::Elsewhere) => {
+        Paused::Went => Further::Went,
+        Paused::Refused => Further::Refused,
+        Paused::Stops => Further::Stopped,
+        Paused::OutOfMemory => Further::OutOfMemory,
+        Paused::Store {
+            kind,
+            value,
+            base,
+            offset,
+        } => run_store(
+            cpu, memory, held, tid, kind, value, base, offset, row, observer,
+        ),
+        Paused::Elsewhere => {
             // it goes on in another page, whose code is mostly known
-            if row.told + row.plain > before {
+            if row.made() > before {
                 *place = memory.code_place(cpu.pc);
-                return Ok(Further::Went);
+                return Further::Went;
             }
             match carry_out_next(cpu, memory, held, tid, place) {
                 Ok(next) => count_next(row, tid, next, observer),
-                Err(e) => Err(e),
+                Err(_) => Further::OutOfMemory,
             }
         }
-        Err(e) => Err(e),
     }
 }
 
@@ -522,28 +746,18 @@ pub(crate) fn run_on<W: Observer>(
     ensures same { W.fits observer.new ≡ W.fits observer.old }
 {
     let mut place = 0;
-    let mut row = StepRow {
-        told: 0,
-        plain: 0,
-        left: most,
-    };
-    'steps: while row.plain < row.left {
+    let mut row = StepRow::new(most);
+    'steps: while row.goes_on() {
         match run_further(cpu, memory, held, tid, &mut place, &mut row, observer) {
-            Ok(Further::Went) => {}
-            Ok(Further::Stopped) => {
-                return (
-                    row.told + row.plain,
-                    observe_plain(tid, row.plain, observer),
-                );
+            Further::Went => {}
+            Further::Stopped => {
+                return (row.made(), observe_plain(tid, row.plain(), observer));
             }
-            Ok(Further::Refused) => return (row.told, Ok(Observed::Refused)),
-            Err(e) => return (row.told + row.plain, Err(e)),
+            Further::Refused => return (row.told(), Ok(Observed::Refused)),
+            Further::OutOfMemory => return (row.made(), Err(AllocError)),
         }
     }
-    (
-        row.told + row.plain,
-        observe_plain(tid, row.plain, observer),
-    )
+    (row.made(), observe_plain(tid, row.plain(), observer))
 }
 
 // Hands out `steps` steps of a thread, which may be none.

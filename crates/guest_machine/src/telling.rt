@@ -2,7 +2,7 @@
 ghost use Rattle.std.specs.Prelude.{◌≡◌, ◌≤◌, ◌++◌, ◌∷◌, [], ℕ, List, None, IfOk};
 ghost use Rattle.trace_model.specs.declared.event_kinds.Event.TheVariants.{Call, Read, Ret, Step, Write};
 ghost use Rattle.trace_model.specs.EventList.{EventList};
-ghost use Rattle.trace_model.specs.Observing.{MayTakeAll, ObservesAll};
+ghost use Rattle.trace_model.specs.Observing.{MayTakeAfter, MayTakeAll, ObservesAfter, ObservesAll, result_of};
 ghost use Rattle.call_tracker.specs.Links.{kind_of};
 ghost use Rattle.guest_machine.specs.declared.stepped.Stepped.TheVariants.{Went};
 ghost use Rattle.guest_machine.specs.Kept.{Parts, out_of};
@@ -16,7 +16,7 @@ use guest_words::{Addr, Tid, Word};
 use rv_exec::Access;
 use rv_isa::Instr;
 use std::alloc::AllocError;
-use trace_model::{Event, Observed, Observer};
+use trace_model::{Answer, Event, Observed, Observer};
 
 /// What is told of an instruction that went.
 #[inline(always)]
@@ -60,7 +60,7 @@ fn hand_two<W: Observer>(
 }
 
 // Hands out `steps` steps of a thread, the last of which did nothing beside.
-#[inline(always)]
+#[inline(never)]
 fn observe_nothing<W: Observer>(
     tid: Tid,
     steps: u64,
@@ -115,8 +115,7 @@ fn observe_two<W: Observer>(
     hand_two(first, second, observer)
 }
 
-// Hands out `steps` steps of a thread, the last of which read these words. Each kind of event has a function of its own, which
-// stands apart: the code of the loop over known instructions is then short enough to be inlined, and so is the observer's here.
+// Hands out `steps` steps of a thread, the last of which read these words.
 #[inline(never)]
 fn observe_read<W: Observer>(
     tid: Tid,
@@ -135,24 +134,66 @@ fn observe_read<W: Observer>(
     observe_one(tid, steps, Event::Read { tid, first, count }, observer)
 }
 
-/// The same, where it read one word. It takes few arguments, so that the loop over known instructions, which read the word itself,
-/// calls it at little cost.
+/// Hands out `steps` steps of a thread, the last of which read one word. Each kind of event that most programs have most has a
+/// function of its own, which stands apart, so that the code of the loop over known instructions is short. Its answer is one
+/// number.
 #[inline(never)]
-pub(crate) fn observe_word_read<W: Observer>(
+pub(crate) fn tell_word_read<W: Observer>(
+    observer: &mut W,
     tid: Tid,
     steps: u64,
     first: Word,
-    observer: &mut W,
-) -> Result<Observed, AllocError>
+) -> Answer
     requires some { 1 ≤ steps }
     requires next { MayTakeAll W.stands (W.fits observer.old) observer.old
         (steps_of tid steps ++ Read tid first 1 ∷ []) }
-    ensures observed { IfOk result (ObservesAll W.stands (W.fits observer.old)
+    ensures observed { IfOk (result_of result) (ObservesAll W.stands (W.fits observer.old)
         (steps_of tid steps ++ Read tid first 1 ∷ []) observer.old observer.new) }
     ensures same { W.fits observer.new ≡ W.fits observer.old }
 {
-    let count = 1;
-    observe_one(tid, steps, Event::Read { tid, first, count }, observer)
+    observer.observe_word_read(tid, steps, first)
+}
+
+/// The same of words that were read, mostly one.
+#[inline(always)]
+pub(crate) fn observe_words_read<W: Observer>(
+    observer: &mut W,
+    tid: Tid,
+    steps: u64,
+    first: Word,
+    count: u32,
+) -> Answer
+    requires may { MayTakeAfter W.stands (W.fits observer.old) observer.old tid steps (Read tid first count) }
+    requires some { 1 ≤ steps }
+    ensures observed { IfOk (result_of result) (ObservesAfter W.stands (W.fits observer.old) tid steps (Read tid first count) observer.old observer.new) }
+    ensures same { W.fits observer.new ≡ W.fits observer.old }
+{
+    if count == 1 {
+        observer.observe_word_read(tid, steps, first)
+    } else {
+        Answer::of(observer.observe_after(tid, steps, Event::Read { tid, first, count }))
+    }
+}
+
+/// The same of words that were written.
+#[inline(always)]
+pub(crate) fn observe_words_written<W: Observer>(
+    observer: &mut W,
+    tid: Tid,
+    steps: u64,
+    first: Word,
+    count: u32,
+) -> Answer
+    requires may { MayTakeAfter W.stands (W.fits observer.old) observer.old tid steps (Write tid first count) }
+    requires some { 1 ≤ steps }
+    ensures observed { IfOk (result_of result) (ObservesAfter W.stands (W.fits observer.old) tid steps (Write tid first count) observer.old observer.new) }
+    ensures same { W.fits observer.new ≡ W.fits observer.old }
+{
+    if count == 1 {
+        observer.observe_word_written(tid, steps, first)
+    } else {
+        Answer::of(observer.observe_after(tid, steps, Event::Write { tid, first, count }))
+    }
 }
 
 // Hands out `steps` steps of a thread, the last of which wrote these words.
@@ -174,23 +215,22 @@ fn observe_write<W: Observer>(
     observe_one(tid, steps, Event::Write { tid, first, count }, observer)
 }
 
-/// The same, where it wrote one word.
+/// The same of a write.
 #[inline(never)]
-pub(crate) fn observe_word_written<W: Observer>(
+pub(crate) fn tell_word_written<W: Observer>(
+    observer: &mut W,
     tid: Tid,
     steps: u64,
     first: Word,
-    observer: &mut W,
-) -> Result<Observed, AllocError>
+) -> Answer
     requires some { 1 ≤ steps }
     requires next { MayTakeAll W.stands (W.fits observer.old) observer.old
         (steps_of tid steps ++ Write tid first 1 ∷ []) }
-    ensures observed { IfOk result (ObservesAll W.stands (W.fits observer.old)
+    ensures observed { IfOk (result_of result) (ObservesAll W.stands (W.fits observer.old)
         (steps_of tid steps ++ Write tid first 1 ∷ []) observer.old observer.new) }
     ensures same { W.fits observer.new ≡ W.fits observer.old }
 {
-    let count = 1;
-    observe_one(tid, steps, Event::Write { tid, first, count }, observer)
+    observer.observe_word_written(tid, steps, first)
 }
 
 // Hands out `steps` steps of a thread, the last of which read this word and then wrote it.
@@ -220,41 +260,30 @@ fn observe_both<W: Observer>(
     )
 }
 
-// Hands out `steps` steps of a thread, the last of which is a call.
+// The same of a call.
 #[inline(never)]
-fn observe_call<W: Observer>(
-    tid: Tid,
-    steps: u64,
-    entry: Addr,
-    back: Addr,
-    observer: &mut W,
-) -> Result<Observed, AllocError>
+fn tell_call<W: Observer>(observer: &mut W, tid: Tid, steps: u64, entry: Addr, back: Addr) -> Answer
     requires some { 1 ≤ steps }
     requires next { MayTakeAll W.stands (W.fits observer.old) observer.old
         (steps_of tid steps ++ Call tid entry back ∷ []) }
-    ensures observed { IfOk result (ObservesAll W.stands (W.fits observer.old)
+    ensures observed { IfOk (result_of result) (ObservesAll W.stands (W.fits observer.old)
         (steps_of tid steps ++ Call tid entry back ∷ []) observer.old observer.new) }
     ensures same { W.fits observer.new ≡ W.fits observer.old }
 {
-    observe_one(tid, steps, Event::Call { tid, entry, back }, observer)
+    observer.observe_call(tid, steps, entry, back)
 }
 
-// Hands out `steps` steps of a thread, the last of which is a return.
+// The same of a return.
 #[inline(never)]
-fn observe_return<W: Observer>(
-    tid: Tid,
-    steps: u64,
-    target: Addr,
-    observer: &mut W,
-) -> Result<Observed, AllocError>
+fn tell_return<W: Observer>(observer: &mut W, tid: Tid, steps: u64, target: Addr) -> Answer
     requires some { 1 ≤ steps }
     requires next { MayTakeAll W.stands (W.fits observer.old) observer.old
         (steps_of tid steps ++ Ret tid target ∷ []) }
-    ensures observed { IfOk result (ObservesAll W.stands (W.fits observer.old)
+    ensures observed { IfOk (result_of result) (ObservesAll W.stands (W.fits observer.old)
         (steps_of tid steps ++ Ret tid target ∷ []) observer.old observer.new) }
     ensures same { W.fits observer.new ≡ W.fits observer.old }
 {
-    observe_one(tid, steps, Event::Ret { tid, target }, observer)
+    observer.observe_return(tid, steps, target)
 }
 
 // Hands out `steps` steps of a thread, the last of which returns and then calls.
@@ -301,9 +330,9 @@ fn observe_access<W: Observer>(
     }
 }
 
-// Hands out `steps` steps of a thread, and the calls and the returns of the last.
+/// Hands out `steps` steps of a thread, and the calls and the returns of the last.
 #[inline(always)]
-fn observe_jump<W: Observer>(
+pub(crate) fn observe_jump<W: Observer>(
     tid: Tid,
     steps: u64,
     jump: JumpKind,
@@ -320,8 +349,8 @@ fn observe_jump<W: Observer>(
 {
     match jump {
         JumpKind::Nothing => observe_nothing(tid, steps, observer),
-        JumpKind::Push => observe_call(tid, steps, target, back, observer),
-        JumpKind::Pop => observe_return(tid, steps, target, observer),
+        JumpKind::Push => tell_call(observer, tid, steps, target, back).result(),
+        JumpKind::Pop => tell_return(observer, tid, steps, target).result(),
         JumpKind::PopPush => observe_return_and_call(tid, steps, target, back, observer),
     }
 }

@@ -186,22 +186,22 @@ pub fn execute_plain<P: Counter>(pc: &mut P, cpu: &mut Cpu, d: Decoded) -> bool
         Decoded::And { rd, left, right } => plain_register(pc, cpu, RegOp::And, rd, left, right),
         Decoded::Mul { rd, left, right } => plain_register(pc, cpu, RegOp::Mul, rd, left, right),
         Decoded::Mulh { rd, left, right } => plain_register(pc, cpu, RegOp::Mulh, rd, left, right),
-        Decoded::Mulhsu { rd, left, right } => went(register(
+        Decoded::Mulhsu { rd, left, right } => plain_register(
             pc,
             cpu,
             RegOp::Mulhsu,
             rd,
             left,
             right,
-        )),
-        Decoded::Mulhu { rd, left, right } => went(register(
+        ),
+        Decoded::Mulhu { rd, left, right } => plain_register(
             pc,
             cpu,
             RegOp::Mulhu,
             rd,
             left,
             right,
-        )),
+        ),
         Decoded::Div { rd, left, right } => plain_register(pc, cpu, RegOp::Div, rd, left, right),
         Decoded::Divu { rd, left, right } => plain_register(pc, cpu, RegOp::Divu, rd, left, right),
         Decoded::Rem { rd, left, right } => plain_register(pc, cpu, RegOp::Rem, rd, left, right),
@@ -380,9 +380,9 @@ fn jump<P: Counter>(pc: &mut P, target: Addr) -> Outcome
     Outcome::WENT
 }
 
-// Goes to a target, where that is a multiple of 4, and leaves the way back in a register.
+/// Goes to a target, where that is a multiple of 4, and leaves the way back in a register: JAL and JALR.
 #[inline(always)]
-fn jump_and_link<P: Counter>(pc: &mut P, cpu: &mut Cpu, rd: Reg, target: Addr) -> Outcome
+pub fn jump_and_link<P: Counter>(pc: &mut P, cpu: &mut Cpu, rd: Reg, target: Addr) -> Outcome
     ensures { (result, with_pc (P.at pc.new) cpu.new) ≡ linked rd target (with_pc (P.at pc.old) cpu.old) }
 {
     if target % 4 != 0 {

@@ -16,7 +16,7 @@ mod outcome;
 
 pub use counter::{Counter, Cursor};
 pub use cpu::Cpu;
-pub use instruction::{execute, execute_plain, execute_reading};
+pub use instruction::{execute, execute_plain, execute_reading, jump_and_link};
 pub use laws::every_instruction;
 pub use loads_and_stores::{load_word, load_words, store_word, store_words};
 pub use operations::add_offset;

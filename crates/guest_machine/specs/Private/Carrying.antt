@@ -1,18 +1,20 @@
 -- Steps of a thread on its registers, the memory and the reservations alone.
 use Rattle.std.specs.Prelude.{◌≡◌, ℕ, ◌+◌, Bool, true, List, ◌∷◌, ◌++◌, None}
-use Rattle.rv_exec.specs.Effects.{ExecState}
+use Rattle.rv_isa.specs.declared.instruction.Instr.{Instr}
+use Rattle.rv_exec.specs.Effects.{ExecState, effect, linked, on_registers}
+use Rattle.rv_exec.specs.Registers.{Registers}
+use Rattle.call_tracker.specs.Links.{kind_of}
+use Rattle.call_tracker.specs.declared.jumps.JumpKind.{JumpKind}
 use Rattle.trace_model.specs.declared.event_kinds.Event.{Event}
 use Rattle.trace_model.specs.declared.event_kinds.Event.TheVariants.{Step}
 use Rattle.trace_model.specs.declared.observer.Observed.{Observed}
 use Rattle.guest_kernel.specs.Kernel.{later_by}
-use Rattle.guest_machine.specs.declared.known.Reading.{Reading}
-use Rattle.guest_machine.specs.declared.known.Reading.TheVariants as reading
 use Rattle.guest_machine.specs.declared.stepped.Advanced.{Advanced}
 use Rattle.guest_machine.specs.declared.stepped.Stepped.TheVariants.{Went}
 use Rattle.guest_machine.specs.Machine.{MachineState, can_run, later}
 use Rattle.guest_machine.specs.Running.{AllGoOn, MayTakeSteps, ObservesSteps, after_steps, events_of_steps}
 use Rattle.guest_machine.specs.Sound.{IsSoundMachine}
-use Rattle.guest_machine.specs.Told.{IsInstruction, done_by}
+use Rattle.guest_machine.specs.Told.{done_by}
 use Rattle.guest_machine.specs.Step.{StepResult, exec_state_of, step, with_exec_state}
 
 -- It is what a thread of a sound machine, which can run, works on.
@@ -38,10 +40,10 @@ pub record StepsTo (m : MachineState) (tid : ℕ) (c : ExecState) (events : List
 abbrev pub IsStepOf : ExecState → ExecState → ℕ → Advanced → Type 0
 IsStepOf old new tid advanced = (m : MachineState) → IsStateOf old tid m → StepsTo m tid new (Step tid ∷ done_by tid advanced)
 
--- What a `Reading` says: the instruction went; otherwise nothing changed.
-abbrev pub IsReadingOf : ExecState → ExecState → ℕ → Reading → Type 0
-IsReadingOf old new tid (reading.Went advanced) = IsStepOf old new tid advanced × IsInstruction advanced
-IsReadingOf old new tid other = new ≡ old
+-- The instruction jumps to the target and leaves the way back in rd; by the link registers it does this.
+pub record JumpsTo (i : Instr) (r : Registers) (rd target : ℕ) (jump : JumpKind) : Type 0 where
+  pub does : (tid : ℕ) (c : ExecState) → c.registers ≡ r → effect tid i c ≡ on_registers c (linked rd target c.registers)
+  pub kind : kind_of i ≡ jump
 
 -- `count` steps left this state, after each of which the thread goes on.
 pub record Carries (m : MachineState) (tid : ℕ) (c : ExecState) (count : ℕ) : Type 0 where

@@ -1,5 +1,6 @@
 -- One step of a row, carried out and told to the observer at once.
 use Rattle.std.specs.Prelude.{◌≡◌, ℕ, ℤ, ◌+◌, ◌<◌, ◌%◌, ◌^◌, Bool, List, Result, Ok, Err}
+use Rattle.std.specs.Allocator.{alloc_error}
 use Rattle.std.specs.declared.alloc.AllocError.{AllocError}
 use Rattle.guest_memory.specs.Code.{IsInstructionAt}
 use Rattle.guest_memory.specs.Guest.{memory_of}
@@ -12,45 +13,46 @@ use Rattle.rv_exec.specs.Effects.{ExecState, advanced, exec_state_of, value}
 use Rattle.rv_exec.specs.Operations.{add_offset}
 use Rattle.rv_exec.specs.Registers.{Registers, with_pc}
 use Rattle.trace_model.specs.declared.event_kinds.Event.{Event}
+use Rattle.trace_model.specs.declared.observer.Answer.{Answer}
+use Rattle.trace_model.specs.declared.observer.Answer.TheVariants as reply
 use Rattle.trace_model.specs.declared.observer.Observed.{Observed}
 use Rattle.trace_model.specs.declared.observer.Observed.TheVariants as observed
 use Rattle.guest_machine.specs.declared.making.Made.{Made}
 use Rattle.guest_machine.specs.declared.making.Made.TheVariants as made
-use Rattle.guest_machine.specs.declared.rows.StepRow.{StepRow}
-use Rattle.guest_machine.specs.Private.Rows.{MayRun, RunsOn, handed}
+use Rattle.guest_machine.specs.Private.Rows.{MayRun, Row, RunsOn, handed}
 
 -- what became of an instruction that the observer was told of
-abbrev pub made_of : Result Observed AllocError → Result Made AllocError
-made_of (Ok observed.Taken) = Ok made.Taken
-made_of (Ok observed.Refused) = Ok made.Refused
-made_of (Err e) = Err e
+abbrev pub made_of : Answer → Made
+made_of reply.Taken = made.Taken
+made_of reply.Refused = made.Refused
+made_of reply.OutOfMemory = made.OutOfMemory
 
 -- the observer's answer, and the row afterwards
-abbrev pub made_answer : Result Made AllocError → Result Observed AllocError
-made_answer (Ok made.Refused) = Ok observed.Refused
-made_answer (Ok other) = Ok observed.Taken
-made_answer (Err e) = Err e
+abbrev pub made_answer : Made → Result Observed AllocError
+made_answer made.Refused = Ok observed.Refused
+made_answer made.OutOfMemory = Err alloc_error
+made_answer other = Ok observed.Taken
 
-abbrev pub made_row : StepRow → Result Made AllocError → StepRow
-made_row row (Ok made.Stops) = row
+abbrev pub made_row : Row → Made → Row
+made_row row made.Stops = row
 made_row row other = handed row
 
 -- the program counter afterwards, behind an instruction that is no jump
-abbrev pub behind : ℕ → Result Made AllocError → ℕ
-behind pc (Ok made.Stops) = pc
+abbrev pub behind : ℕ → Made → ℕ
+behind pc made.Stops = pc
 behind pc other = (pc + 4) % 2 ^ 32
 
 -- Some row of steps led here, whose next step is the last of `steps` that the observer is told of.
 pub record MayMake {O : Type 0} (Stands : O → List Event → Type 0) (fits : List Event → Bool) (tid steps : ℕ) (here : ExecState) (now : O) : Type 0 where
-  pub row : StepRow
+  pub row : Row
   pub low : row.plain < row.left
   pub count : steps ≡ row.plain + 1
   pub run : MayRun Stands fits tid row here now
 
 -- Any such row leads on with this step.
-abbrev pub Makes : {O : Type 0} → (O → List Event → Type 0) → (List Event → Bool) → ℕ → ℕ → ExecState → O → ExecState → O → Result Made AllocError → Type 0
+abbrev pub Makes : {O : Type 0} → (O → List Event → Type 0) → (List Event → Bool) → ℕ → ℕ → ExecState → O → ExecState → O → Made → Type 0
 Makes {O} Stands fits tid steps here now there later answer =
-    (row : StepRow) → row.plain < row.left → steps ≡ row.plain + 1
+    (row : Row) → row.plain < row.left → steps ≡ row.plain + 1
     → RunsOn Stands fits tid row here now (made_row row answer) there later (made_answer answer)
 
 -- ---- loads
@@ -67,7 +69,7 @@ pub record MayLoad {O : Type 0} (Stands : O → List Event → Type 0) (fits : L
 
 -- Wherever that load is the next step, it was made.
 abbrev pub MakesLoad : {O : Type 0} → (O → List Event → Type 0) → (List Event → Bool) → ℕ → ℕ → LoadKind → ℕ → ℕ
-    → GuestMemory → Registers → O → Registers → O → Result Made AllocError → Type 0
+    → GuestMemory → Registers → O → Registers → O → Made → Type 0
 MakesLoad Stands fits tid steps kind rd at memory old now new later answer =
     (pc : ℕ) (held : Reservations) (base : ℕ) (offset : ℤ)
     → IsInstructionAt (memory_of memory) pc (Load kind rd base offset) → at ≡ add_offset (value old base) offset
@@ -76,8 +78,8 @@ MakesLoad Stands fits tid steps kind rd at memory old now new later answer =
 
 -- ---- stores
 -- the registers afterwards
-abbrev pub stored : Registers → Result Made AllocError → Registers
-stored r (Ok made.Stops) = r
+abbrev pub stored : Registers → Made → Registers
+stored r made.Stops = r
 stored r other = advanced r
 
 -- A store of the number to the address is the next step of some row.
@@ -94,7 +96,7 @@ pub record MayStore {O : Type 0} (Stands : O → List Event → Type 0) (fits : 
 
 -- Wherever that store is the next step, it was made.
 abbrev pub MakesStore : {O : Type 0} → (O → List Event → Type 0) → (List Event → Bool) → ℕ → ℕ → StoreKind → ℕ → ℕ
-    → GuestMemory → Reservations → O → GuestMemory → Reservations → O → Result Made AllocError → Type 0
+    → GuestMemory → Reservations → O → GuestMemory → Reservations → O → Made → Type 0
 MakesStore Stands fits tid steps kind at n memory held now memory' held' later answer =
     (r : Registers) (from base : ℕ) (offset : ℤ)
     → IsInstructionAt (memory_of memory) r.pc (Store kind from base offset) → at ≡ add_offset (value r base) offset → n ≡ value r from

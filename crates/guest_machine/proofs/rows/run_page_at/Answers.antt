@@ -1,4 +1,4 @@
-use Rattle.std.proofs.Common.{◌≡◌, ◌%◌, ◌∙◌, IfOk, ap, sym, subst}
+use Rattle.std.proofs.Common.{◌≡◌, ◌%◌, ◌∙◌, ap, sym, subst}
 use Rattle.guest_memory.specs.Guest.{memory_of}
 use Rattle.rv_exec.specs.Effects.{exec_state_of}
 use Rattle.rv_exec.specs.Registers.{Registers, with_pc}
@@ -35,4 +35,4 @@ returns-clause-runs g c =
 pub returns-clause-next : goal.returns-clause-next
 returns-clause-next g c =
     let from = c.run_page-answer in
-    subst (λ pc. IfOk from.result (IsPaused (memory_of c.args.memory.now) pc from.new.row)) (sym c.address-cpu-inside.ensures) from.ensures.next
+    subst (λ pc. IsPaused (memory_of c.args.memory.now) pc from.new.row from.result) (sym c.address-cpu-inside.ensures) from.ensures.next

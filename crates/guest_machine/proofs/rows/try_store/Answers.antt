@@ -3,8 +3,9 @@ use Rattle.std.proofs.lemmas.Int.{to_z-of_z}
 use Rattle.rv_exec.specs.Effects.{exec_state_of}
 use Rattle.rv_exec.specs.Operations.{add_offset}
 use Rattle.rv_exec.specs.declared.outcome.Access.TheVariants as access
-use Rattle.trace_model.specs.declared.observer.Observed.{Observed}
+use Rattle.std.specs.Allocator.{alloc_error}
 use Rattle.trace_model.specs.declared.observer.Observed.TheVariants.{Refused, Taken}
+use Rattle.trace_model.specs.Observing.{result_of}
 use Rattle.guest_machine.specs.declared.stepped.Advanced.TheVariants.{Accessed}
 use Rattle.guest_machine.proofs.RowOfSteps.{may_hand, runs_to}
 use Rattle.guest_machine.proofs.TriedSteps.{store_word_step}
@@ -23,8 +24,8 @@ hand_write-requires-clause-next g c =
     may_hand g.W.Observer.stands (g.W.Observer.fits old) (g.W.Observer.steps_fit old) tid r.first r.old r.most c.args.row.now here old
     r.run c.requires.within new (Accessed (access.Write c.in-Some.first 1)) step
 
-pub returns-in-Ok-Taken-clause-runs : goal.returns-in-Ok-Taken-clause-runs
-returns-in-Ok-Taken-clause-runs g c = λ first began most run.
+pub returns-in-Taken-clause-runs : goal.returns-in-Taken-clause-runs
+returns-in-Taken-clause-runs g c = λ first began most run.
     let old = c.args.observer.now in
     let tid = c.args.tid in
     let at_is = c.add_offset-at.ensures ∙ ap₂ add_offset c.value.ensures.value (to_z-of_z w32 c.args.offset c.ranges.offset) in
@@ -34,10 +35,10 @@ returns-in-Ok-Taken-clause-runs g c = λ first began most run.
     c.args.cpu.now c.advance.new.self c.advance.ensures.registers c.args.kind c.args.value c.args.base c.args.offset c.in-Sw.is c.requires.known at_is c.value-2.ensures.value in
     runs_to g.W.Observer.stands (g.W.Observer.fits old) (g.W.Observer.steps_fit old) tid first began most c.args.row.now here old
     run c.requires.within new (Accessed (access.Write c.in-Some.first 1)) step c.hand_write.new.row c.hand_write.ensures.row
-    c.hand_write.result (Ok Taken) (c.in-Ok-Taken.is ∙ ap (λ (o : Observed). Ok o) c.in-Ok-Taken.field-0-is) c.hand_write.new.observer c.hand_write.ensures.observed
+    (result_of c.hand_write.result) (Ok Taken) (ap result_of c.in-Taken.is) c.hand_write.new.observer c.hand_write.ensures.observed
 
-pub returns-in-Ok-Refused-clause-runs : goal.returns-in-Ok-Refused-clause-runs
-returns-in-Ok-Refused-clause-runs g c = λ first began most run.
+pub returns-in-Refused-clause-runs : goal.returns-in-Refused-clause-runs
+returns-in-Refused-clause-runs g c = λ first began most run.
     let old = c.args.observer.now in
     let tid = c.args.tid in
     let at_is = c.add_offset-at.ensures ∙ ap₂ add_offset c.value.ensures.value (to_z-of_z w32 c.args.offset c.ranges.offset) in
@@ -47,10 +48,10 @@ returns-in-Ok-Refused-clause-runs g c = λ first began most run.
     c.args.cpu.now c.advance.new.self c.advance.ensures.registers c.args.kind c.args.value c.args.base c.args.offset c.in-Sw.is c.requires.known at_is c.value-2.ensures.value in
     runs_to g.W.Observer.stands (g.W.Observer.fits old) (g.W.Observer.steps_fit old) tid first began most c.args.row.now here old
     run c.requires.within new (Accessed (access.Write c.in-Some.first 1)) step c.hand_write.new.row c.hand_write.ensures.row
-    c.hand_write.result (Ok Refused) (c.in-Ok-Refused.is ∙ ap (λ (o : Observed). Ok o) c.in-Ok-Refused.field-0-is) c.hand_write.new.observer c.hand_write.ensures.observed
+    (result_of c.hand_write.result) (Ok Refused) (ap result_of c.in-Refused.is) c.hand_write.new.observer c.hand_write.ensures.observed
 
-pub returns-in-Err-clause-runs : goal.returns-in-Err-clause-runs
-returns-in-Err-clause-runs g c = λ first began most run.
+pub returns-in-OutOfMemory-clause-runs : goal.returns-in-OutOfMemory-clause-runs
+returns-in-OutOfMemory-clause-runs g c = λ first began most run.
     let old = c.args.observer.now in
     let tid = c.args.tid in
     let at_is = c.add_offset-at.ensures ∙ ap₂ add_offset c.value.ensures.value (to_z-of_z w32 c.args.offset c.ranges.offset) in
@@ -60,4 +61,4 @@ returns-in-Err-clause-runs g c = λ first began most run.
     c.args.cpu.now c.advance.new.self c.advance.ensures.registers c.args.kind c.args.value c.args.base c.args.offset c.in-Sw.is c.requires.known at_is c.value-2.ensures.value in
     runs_to g.W.Observer.stands (g.W.Observer.fits old) (g.W.Observer.steps_fit old) tid first began most c.args.row.now here old
     run c.requires.within new (Accessed (access.Write c.in-Some.first 1)) step c.hand_write.new.row c.hand_write.ensures.row
-    c.hand_write.result (Err c.in-Err.e) c.in-Err.is c.hand_write.new.observer c.hand_write.ensures.observed
+    (result_of c.hand_write.result) (Err alloc_error) (ap result_of c.in-OutOfMemory.is) c.hand_write.new.observer c.hand_write.ensures.observed

@@ -1,0 +1,19 @@
+use Rattle.std.proofs.lemmas.Result.{IfOk-weaker}
+use Rattle.trace_model.specs.declared.event_kinds.Event.TheVariants.{Ret}
+use Rattle.trace_model.specs.Observing.{result_of}
+use Rattle.guest_machine.proofs.Handed.{may_after, observes_behind}
+use Rattle.guest_machine.proofs.telling.tell_return.Goals as goal
+
+pub observe_return-requires-clause-may : goal.observe_return-requires-clause-may
+observe_return-requires-clause-may g c =
+    let old = c.args.observer.now in
+    may_after g.W.Observer.stands (g.W.Observer.fits old) c.args.tid c.args.steps (Ret c.args.tid c.args.target) old c.requires.next
+
+pub returns-clause-observed : goal.returns-clause-observed
+returns-clause-observed g c =
+    let old = c.args.observer.now in
+    IfOk-weaker (result_of c.observe_return.result) _ _
+    (λ observed h.
+    observes_behind g.W.Observer.stands (g.W.Observer.fits old) c.args.tid c.args.steps (Ret c.args.tid c.args.target) old (g.W.Observer.fits_closed old) (g.W.Observer.steps_fit old)
+    c.observe_return.new.self observed h)
+    c.observe_return.ensures.observed

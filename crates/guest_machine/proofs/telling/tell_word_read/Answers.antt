@@ -1,0 +1,19 @@
+use Rattle.std.proofs.lemmas.Result.{IfOk-weaker}
+use Rattle.trace_model.specs.declared.event_kinds.Event.TheVariants.{Read}
+use Rattle.trace_model.specs.Observing.{result_of}
+use Rattle.guest_machine.proofs.Handed.{may_after, observes_behind}
+use Rattle.guest_machine.proofs.telling.tell_word_read.Goals as goal
+
+pub observe_word_read-requires-clause-may : goal.observe_word_read-requires-clause-may
+observe_word_read-requires-clause-may g c =
+    let old = c.args.observer.now in
+    may_after g.W.Observer.stands (g.W.Observer.fits old) c.args.tid c.args.steps (Read c.args.tid c.args.first 1) old c.requires.next
+
+pub returns-clause-observed : goal.returns-clause-observed
+returns-clause-observed g c =
+    let old = c.args.observer.now in
+    IfOk-weaker (result_of c.observe_word_read.result) _ _
+    (λ observed h.
+    observes_behind g.W.Observer.stands (g.W.Observer.fits old) c.args.tid c.args.steps (Read c.args.tid c.args.first 1) old (g.W.Observer.fits_closed old) (g.W.Observer.steps_fit old)
+    c.observe_word_read.new.self observed h)
+    c.observe_word_read.ensures.observed
