@@ -30,7 +30,7 @@ begin_apt() {
   cd "$work"
   site=$(apt-get indextargets --format '$(SITE) $(RELEASE)' 'Created-By: Packages' | awk '$2 !~ /-/ { print $1; exit }')
   if [ -z "$site" ]; then
-    echo "$1: this machine has no package source of Debian's" >&2
+    echo "$1: apt knows no package source of Debian here; run apt-get update as root first" >&2
     exit 1
   fi
   mkdir -p lists/partial cache/archives/partial
