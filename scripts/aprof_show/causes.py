@@ -1,13 +1,13 @@
 """Where the cost of a routine comes from: the routine below it that has the greatest own cost there.
 
 What is called with a size or two (`strcmp` of short words) doesn't grow by itself: its cost is counted with the next caller that
-has a growth, and it is named only where there is no such caller below the routine. What is told of the one that is found is its
-cost with its callees, as everywhere.
+has a growth, and it is named only where there is no such caller below the routine. So is what the C library's routines cost: it
+is the calls of them that can be mended. What is told of the one that is found is its cost with its callees, as everywhere.
 """
 from __future__ import annotations
 
 from collections import Counter
-from collections.abc import Iterator, Mapping, Sequence
+from collections.abc import Collection, Iterator, Mapping, Sequence
 from dataclasses import dataclass, field
 
 from aprof_show.costs import Cost, Way, ways_of
@@ -68,10 +68,15 @@ class Cause(Measured):
 
 
 def causes_of(
-    roots: Sequence[Context], costs: Mapping[Context, Cost], totals: Mapping[Routine, int], growth_of: GrowthOf
+    roots: Sequence[Context],
+    costs: Mapping[Context, Cost],
+    totals: Mapping[Routine, int],
+    growth_of: GrowthOf,
+    library: Collection[Routine] = frozenset(),
 ) -> dict[Routine, Cause]:
-    """The cause of each routine of `totals` that has one; these are the routines' costs, calls nested in one another once."""
-    causes = {routine: Cause(found) for routine, found in dearest_below(roots, costs, totals, growth_of)}
+    """The cause of each routine of `totals` that has one; these are the routines' costs, calls nested in one another once.
+    `library` has the routines of the C library."""
+    causes = {routine: Cause(found) for routine, found in dearest_below(roots, costs, totals, Bearers(growth_of, library))}
     callers: dict[Routine, list[Routine]] = {}
     for routine, cause in causes.items():
         callers.setdefault(cause.routine, []).append(routine)
@@ -85,21 +90,44 @@ def causes_of(
     return causes
 
 
+class Bearers:
+    """Along a way, whose cost a context's own counts as."""
+
+    def __init__(self, growth_of: GrowthOf, library: Collection[Routine]) -> None:
+        self.growth_of, self.library = growth_of, library
+        self.growing: list[int] = []
+        self.mendable: list[int] = []
+
+    def enter(self, depth: int, routine: Routine) -> None:
+        """The context at this depth; what was at it and below is left."""
+        for depths in (self.growing, self.mendable):
+            while depths and depths[-1] >= depth:
+                depths.pop()
+        if is_growing(routine, self.growth_of):
+            self.growing.append(depth)
+            if routine not in self.library:
+                self.mendable.append(depth)
+
+    def below(self, depth: int) -> int | None:
+        """The depth of the one that bears it, seen from a routine at this depth."""
+        for depths in (self.mendable, self.growing):
+            if depths and depths[-1] > depth:
+                return depths[-1]
+        return None
+
+
 def dearest_below(
-    roots: Sequence[Context], costs: Mapping[Context, Cost], totals: Mapping[Routine, int], growth_of: GrowthOf
+    roots: Sequence[Context], costs: Mapping[Context, Cost], totals: Mapping[Routine, int], bearers: Bearers
 ) -> Iterator[tuple[Routine, Routine]]:
     """Routines, each with the one below it that bears the most cost, where that explains anything."""
     borne: dict[Routine, Counter[Routine]] = {routine: Counter() for routine in totals}
-    bearers: list[int | None] = []
     for way in ways_of(roots):
-        context, depth = way.path[-1], len(way.path) - 1
-        del bearers[depth:]
-        bearers.append(depth if is_growing(context.routine, growth_of) else bearers[-1] if bearers else None)
-        bearer = bearers[-1]
+        context = way.path[-1]
+        bearers.enter(len(way.path) - 1, context.routine)
         for routine, depths in way.depths.items():
             if routine in borne and routine is not context.routine:
-                place = bearer if bearer is not None and bearer > depths[-1] else depth
-                borne[routine][way.path[place].routine] += costs[context].own
+                place = bearers.below(depths[-1])
+                borne[routine][context.routine if place is None else way.path[place].routine] += costs[context].own
     for routine, parts in borne.items():
         [(dearest, cost)] = parts.most_common(1) or [(routine, 0)]
         if cost and cost >= LEAST * totals[routine]:

@@ -75,21 +75,22 @@ class Explained:
         return {self.causes[routine].routine for routine, reason in self.reasons.items() if reason.is_of_number}
 
 
-def explained(profile: Profile, growth_of: GrowthOf) -> Explained:
+def explained(profile: Profile, growth_of: GrowthOf, library: set[Routine]) -> Explained:
     if profile.roots is None:
         return Explained()
     by_context = costs_of(profile.roots)
     costs = costs_by_routine(profile.roots, by_context)
     callers = {routine: cost.total for routine, cost in costs.items() if 2 * cost.own < cost.total}
-    causes = causes_of(profile.roots, by_context, callers, growth_of)
+    causes = causes_of(profile.roots, by_context, callers, growth_of, library)
     reasons = {routine: reason_of(routine, growth_of(routine), cause, costs[routine].nested) for routine, cause in causes.items()}
     return Explained(costs, causes, {routine: reason for routine, reason in reasons.items() if reason})
 
 
 def rows_of(profile: Profile) -> list[Row]:
     growth_of = growths()
-    known = explained(profile, growth_of)
-    library, many = library_routines(profile.reports, profile.routines), known.many()
+    library = library_routines(profile.reports, profile.routines)
+    known = explained(profile, growth_of, library)
+    many = known.many()
     return [
         replace(
             row_of(routine, growth_of(routine), profile.steps, known.costs),

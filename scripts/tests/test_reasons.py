@@ -114,6 +114,22 @@ class Reasons(unittest.TestCase):
         self.assertIn("marked in the C library: strlen *x2.0 (--library)", text)
         self.assertTrue(any(line.startswith("* harmless itself") for line in text))
 
+    def test_the_caller_of_the_library(self) -> None:
+        """What the library's routines cost counts as that of the program's routine that calls them, where one is below."""
+        names = ["main", "parse", "look_up", "_start", "__libc_start_main", "malloc", "free", "strcmp"]
+        addresses = {name: 0x10000 + 16 * place for place, name in enumerate(names)}
+        looks = [[Call("look_up", k, k, [Call("strcmp", 8 + j % 16, 8 + j % 16) for j in range(k)]) for k in range(2, n)] for n in SIZES]
+        calls = [Call("parse", size, size, inner) for size, inner in zip(SIZES, looks)]
+        run = Run([Call("_start", 9, 1, [Call("main", 9, 1, [*calls, *map(Call, names[4:7])])])], addresses)
+        profile = join([report_of(run.text(contexts=True))])
+        for name, wanted in (("main", "look_up"), ("parse", "look_up"), ("look_up", "strcmp")):
+            with self.subTest(name):
+                cause = row_of(profile, name).cause
+                assert cause
+                self.assertEqual(cause.routine.name, wanted)
+        text = summary(profile, rows_of(profile), Choice(), 80)
+        self.assertTrue(any(line.startswith("*x2.0") and line.endswith(" look_up") for line in text))
+
     def test_one_call_in_each_report(self) -> None:
         """Then their whole cost is known by the size of that call, and tells where one report of all calls doesn't."""
         trees = [(to_the_end, NUMBER_AND_SIZE), (own_square, "called 1984 times"), (linear, "called 1984 times")]
