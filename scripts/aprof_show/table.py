@@ -105,7 +105,7 @@ def columns_of(rows: Sequence[Row], room: int, by: str | None = None) -> list[Co
         Column("POINTS", [str(len(row.routine.points)) for row in rows]),
         Column("SIZES", [sizes_text(row.routine.points) for row in rows]),
     ]
-    return columns + [Column(" ROUTINE", [f" {row.routine.label}{mark(row)}" for row in rows], left=True)]
+    return columns + [Column(" ROUTINE", [f" {row.routine.label}" for row in rows], left=True, tails=[mark(row) for row in rows])]
 
 
 def written_text(routine: Routine, by: str) -> str:

@@ -27,11 +27,13 @@ def can_print(text: str) -> bool:
 
 @dataclass
 class Column:
-    """A column of a table: its heading, of a line or two, over its cells, numbers at the right."""
+    """A column of a table: its heading, of a line or two, over its cells, numbers at the right. `tails` are what stands behind the
+    cells of the last column where there is room."""
 
     heading: str
     cells: list[str]
     left: bool = False
+    tails: Sequence[str] = ()
 
     def texts(self, lines_of_head: int) -> list[str]:
         """All its texts, with so many lines for the heading, which stands at their foot."""
@@ -40,15 +42,19 @@ class Column:
 
 
 def table(columns: Sequence[Column], room: int) -> list[str]:
-    """The lines of a table. Texts of the last column are cut in the middle where the room isn't enough."""
+    """The lines of a table. In the last column a tail is left out, and then the text cut in the middle, where the room isn't
+    enough."""
     lines_of_head = max(column.heading.count("\n") + 1 for column in columns)
     texts = [column.texts(lines_of_head) for column in columns]
     widths = [max(map(len, cells)) for cells in texts]
     rest = max(room - sum(widths[:-1]) - len(widths) + 1, 16)
+    tails = [""] * lines_of_head + list(columns[-1].tails or [""] * len(columns[-1].cells))
     lines = []
-    for row in zip(*texts):
+    for row, tail in zip(zip(*texts), tails):
         aligned = [text.ljust(wide) if column.left else text.rjust(wide) for column, wide, text in zip(columns, widths, row)]
-        lines.append(" ".join([*aligned[:-1], cut(aligned[-1].rstrip(), rest)]).rstrip())
+        last = aligned[-1].rstrip()
+        last = last + tail if len(last + tail) <= rest else cut(last, rest)
+        lines.append(" ".join([*aligned[:-1], last]).rstrip())
     return lines
 
 

@@ -3,6 +3,7 @@ from __future__ import annotations
 
 import unittest
 from collections.abc import Callable
+from dataclasses import replace
 
 from aprof_show.joining import join
 from aprof_show.library import musl_names
@@ -85,6 +86,15 @@ class Listed(unittest.TestCase):
         wide = summary(profile_of({"square": lambda n: n * n}), [row], Choice(), 120)
         self.assertIn("ESTIMATE ESTIMATE", wide[1])
         self.assertIn("AT 10x", wide[2])
+
+    def test_a_remark_gives_way_to_the_name(self) -> None:
+        long = "read_all_of_the_standard_input"
+        profile = profile_of({"square": lambda n: n * n, long: lambda n: 9}, contexts=True)
+        rows = [replace(row, growth=None) for row in rows_of(profile)]
+        for room, wanted in ((100, f"{long}  (one size)"), (88, long), (80, "read_all_o...dard_input")):
+            with self.subTest(room=room):
+                text = summary(profile, rows, Choice(all=True, by="thread"), room)
+                self.assertTrue(any(line.endswith(f" {wanted}") for line in text), "\n".join(text))
 
     def test_library(self) -> None:
         """The user's `find` and `printf` stay, as something of the user's is behind them; the library's are folded."""
