@@ -9,7 +9,8 @@ DECIMAL = r"(0|[1-9][0-9]{0,38})"
 END = r"end (exit [0-9]{1,3}|fault [1-7] [1-9][0-9]{0,6} [0-9a-f]{8}|budget|deadlock|deep|schedule [1-9][0-9]{0,19})"
 ROUTINE = re.compile(r"routine ([0-9a-f]{8}) ([!-~]{1,1024})")
 CONTEXT = re.compile(rf"context {DECIMAL} ([0-9a-f]{{8}})")
-POINT = {version: re.compile(" ".join([DECIMAL] * numbers)) for version, numbers in ((1, 5), (2, 9))}
+NUMBERS = {1: 5, 2: 9}
+POINT = {version: re.compile(" ".join([DECIMAL] * numbers)) for version, numbers in NUMBERS.items()}
 
 
 class BadReport(Exception):
@@ -72,7 +73,16 @@ def read_file(path: str) -> Report | CacheReport:
         return read_report(lines, int(first[-1]))
     if first.startswith("aprof trace"):
         raise lines.bad("this is a trace; `aprof replay -o REPORT TRACE` makes a report of it")
-    raise NotAReport(path, 1, "not a report of aprof, whose first line is `aprof 2`")
+    raise other_version(lines, first) or NotAReport(path, 1, "not a report of aprof, whose first line is `aprof 2`")
+
+
+def other_version(lines: Lines, first: str) -> BadReport | None:
+    """What is said where the first line is nearly that of a report."""
+    if first in ("aprof 1\r", "aprof 2\r", "aprof cache 1\r"):
+        return lines.bad("its lines end in CR LF, as on Windows; aprof stores LF alone")
+    if re.fullmatch(r"aprof (cache )?[0-9]{1,9}", first):
+        return lines.bad(f"a report of another version (`{first}`), which the show of the aprof that stored it reads")
+    return None
 
 
 def read_head(lines: Lines) -> tuple[str, int]:
@@ -111,7 +121,7 @@ def read_routines(lines: Lines, version: int) -> list[Routine]:
         if routines and read_point(lines, line, version, routines[-1].points):
             continue
         if routines and not routines[-1].points:
-            raise lines.bad("expected a point: the routine above has none")
+            raise lines.bad(f"expected a point of {NUMBERS[version]} numbers: the routine above has none")
         if line == f"done {len(routines)}":
             return routines
         entry, name = routine_of(lines, line, routines[-1].entry if routines else -1)
