@@ -36,6 +36,7 @@ REASONS = {
     "--callers": "its routine goes directly behind it",
 }
 
+PAGE_WORDS = "--page FILE REPORT..."
 BEHIND_CALLERS = "the routine goes directly after --callers: --callers ROUTINE REPORT..."
 
 
@@ -110,15 +111,17 @@ def check(options: argparse.Namespace, names: Sequence[str], kind: str) -> None:
 
 
 def check_page(path: str, inputs: Iterable[str], image: str | None) -> None:
-    """A page is not written over what is read."""
+    """A page is written over nothing but a page."""
     if not os.path.isfile(path):
         return
     if image and os.path.samefile(path, image):
-        raise Refused(f"{path} is the image, and is not overwritten: --page FILE REPORT...")
+        raise Refused(f"{path} is the image, and is not overwritten: {PAGE_WORDS}")
     with open(path, "rb") as file:
-        is_report = file.read(6) == b"aprof "
-    if is_report or any(os.path.samefile(path, one) for one in inputs):
-        raise Refused(f"{path} is a report, and is not overwritten: --page FILE REPORT...")
+        head = file.read(64)
+    if head.startswith(b"aprof ") or any(os.path.samefile(path, one) for one in inputs):
+        raise Refused(f"{path} is a report, and is not overwritten: {PAGE_WORDS}")
+    if head.strip() and not head.lstrip().lower().startswith((b"<!doctype html", b"<html")):
+        raise Refused(f"{path} is no page, and is not overwritten: {PAGE_WORDS}")
 
 
 def named(routines: Collection[Routine], name: str) -> list[Routine]:

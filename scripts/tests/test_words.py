@@ -66,7 +66,7 @@ class Refusals(unittest.TestCase):
         self.assertFalse((ROOT / "p.html").exists())
 
     @NEEDS_CHARTS
-    def test_a_page_is_not_written_over_a_report(self) -> None:
+    def test_a_page_is_written_over_nothing_else(self) -> None:
         with tempfile.TemporaryDirectory() as folder:
             report, other, page = (Path(folder, name) for name in ("report", "other", "page.html"))
             for path in (report, other):
@@ -81,7 +81,13 @@ class Refusals(unittest.TestCase):
             for same in (image, link):
                 said = show("--page", str(same), "--image", str(image), str(report), status=2)
                 self.assertEqual(said, f"show: {same} is the image, and is not overwritten: --page FILE REPORT...\n")
-            for new in (page, Path(folder, "new.html")):
+            source, empty = Path(folder, "words.c"), Path(folder, "empty")
+            source.write_text("/* words */")
+            said = show("--page", str(source), str(report), status=2)
+            self.assertEqual(said, f"show: {source} is no page, and is not overwritten: --page FILE REPORT...\n")
+            self.assertEqual(source.read_text(), "/* words */")
+            empty.touch()
+            for new in (page, empty, Path(folder, "new.html")):
                 show("--page", str(new), str(report))
                 self.assertIn("count_file", new.read_text())
 
