@@ -79,6 +79,6 @@ def complaint(words: list[str]) -> str:
 def text_for(words: list[str]) -> str:
     """What is printed for words that ask for help."""
     if "--version" in words[:1]:
-        return f"aprof {version()}\n\n{whole_help()}"
+        return f"aprof {version()}"
     named = [word for word in words if word in BY_NAME]
     return command_help(BY_NAME[named[0]]) if named else whole_help()

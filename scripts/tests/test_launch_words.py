@@ -214,7 +214,7 @@ class Words(Launched):
         self.assertIn("`aprof --version` prints the version", whole.stdout)
         done = self.run_words("--version")
         self.assertEqual(done.returncode, 0)
-        self.assertTrue(done.stdout.startswith("aprof ") and done.stdout.endswith(whole.stdout))
+        self.assertRegex(done.stdout, r"^aprof \S+.*\n$")
         for command in COMMANDS:
             self.assertIn(f"  {command.name} ", whole.stdout)
             for words in (f"help {command.name}", f"{command.name} --help", f"{command.name} -o r x -h"):
