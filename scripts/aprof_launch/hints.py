@@ -4,6 +4,7 @@ from __future__ import annotations
 import os
 import re
 import shlex
+import signal
 import subprocess
 import sys
 from collections.abc import Callable
@@ -36,9 +37,16 @@ class Hints:
             7: self.deadlock, 8: self.too_deep, 9: self.schedule, 10: self.memory, 11: self.too_large, 13: self.bad_trace,
         }  # fmt: skip
         if status > 128:
-            of_memory = "; where memory is short the system sends it" if status == 137 else ""
-            return [f"signal {status - 128} ended the run{of_memory}"]
+            return [f"signal {status - 128} ended the run{self.why_signal(status - 128)}"]
         return of_status[status]() if status in of_status else []
+
+    def why_signal(self, number: int) -> str:
+        if number == signal.SIGKILL:
+            return "; where memory is short the system sends it"
+        if number == signal.SIGXFSZ:
+            is_lost = os.environ.get("APROF_OLDER") and not os.path.exists(self.output)
+            return "; a file has at most the size that `ulimit -f` says" + (f"; what was at {self.output} before is lost" * bool(is_lost))
+        return ""
 
     def asked_again(self, *words: str) -> int | None:
         """The number at the end of what the program says to these words."""

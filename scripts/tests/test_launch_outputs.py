@@ -109,6 +109,16 @@ class Outputs(Launched):
             with full, place:
                 self.assertEqual(hints.lines(4), [f"{path}: the disk is full{text}"])
 
+    def test_a_file_that_may_not_be_so_large(self) -> None:
+        """What was there before is told as lost where nothing is there now."""
+        path, lost = self.folder / "r", "; what was at {} before is lost"
+        hints = Hints(read_words(["run", "-o", str(path), str(self.folder / "bubble")]), "")
+        for is_there, older, text in ((False, "", ""), (False, "yes", lost.format(path)), (True, "yes", "")):
+            path.touch() if is_there else path.unlink(missing_ok=True)
+            with self.subTest(text), patch.dict(os.environ, {"APROF_OLDER": older}):
+                said = f"signal 25 ended the run; a file has at most the size that `ulimit -f` says{text}"
+                self.assertEqual(hints.lines(153), [said])
+
     def test_full_disk_of_a_recording(self) -> None:
         record, hints = self.folder / "k", Hints(read_words(["run", "--record", "k", "-o", "r", "bubble"]), "")
         self.addCleanup(os.chdir, os.getcwd())

@@ -71,6 +71,7 @@ HINTS: Sequence[tuple[str | Sequence[str], int, Sequence[str]]] = (
     ("contexts -o c bubble", 11, ["more than 4294967294 calling contexts"]),
     ("run -o r bubble large", 11, ["aprof: large has 16777217 bytes: a file has at most 16 MiB\n"]),
     ("run -o r bubble", 137, ["aprof: signal 9 ended the run; where memory is short"]),
+    ("run -o r bubble", 153, ["aprof: signal 25 ended the run; a file has at most the size that `ulimit -f` says\n"]),
     ("run -o r bubble", 12, []),
     ("run -o r bubble", 0, []),
 )
