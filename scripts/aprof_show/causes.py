@@ -1,8 +1,9 @@
 """Where the cost of a routine comes from: the routine below it that has the greatest own cost there.
 
 What is called with a size or two (`strcmp` of short words) doesn't grow by itself: its cost is counted with the next caller that
-has a growth, and it is named only where there is no such caller below the routine. So is what the C library's routines cost: it
-is the calls of them that can be mended. What is told of the one that is found is its cost with its callees, as everywhere.
+has a growth, and it is named only where there is no such caller below the routine. What the C library's routines cost is counted
+so too, or else with the program's routine that calls them, as that is what can be mended. What is told of the one that is found is
+its cost with its callees, as everywhere.
 """
 from __future__ import annotations
 
@@ -95,22 +96,22 @@ class Bearers:
 
     def __init__(self, growth_of: GrowthOf, library: Collection[Routine]) -> None:
         self.growth_of, self.library = growth_of, library
-        self.growing: list[int] = []
-        self.mendable: list[int] = []
+        self.kinds: tuple[list[int], list[int], list[int]] = [], [], []
 
     def enter(self, depth: int, routine: Routine) -> None:
         """The context at this depth; what was at it and below is left."""
-        for depths in (self.growing, self.mendable):
+        for depths in self.kinds:
             while depths and depths[-1] >= depth:
                 depths.pop()
-        if is_growing(routine, self.growth_of):
-            self.growing.append(depth)
-            if routine not in self.library:
-                self.mendable.append(depth)
+        grows, is_own = is_growing(routine, self.growth_of), routine not in self.library
+        for depths, is_kind in zip(self.kinds, (grows and is_own, is_own, grows)):
+            if is_kind:
+                depths.append(depth)
 
     def below(self, depth: int) -> int | None:
-        """The depth of the one that bears it, seen from a routine at this depth."""
-        for depths in (self.mendable, self.growing):
+        """The depth of the one that bears it, seen from a routine at this depth: of the program and with a growth, or else of the
+        program, or else with a growth."""
+        for depths in self.kinds:
             if depths and depths[-1] > depth:
                 return depths[-1]
         return None

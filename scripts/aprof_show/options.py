@@ -32,10 +32,10 @@ REST = """WITH CALLEES is the part of all instructions that is spent in the rout
 it calls; ITS OWN, the part in the routine alone. `<=100%` stands where it calls itself
 and only `aprof contexts` can tell; `+` is at least: a call had not returned.
 `(62% in look_up, 2496 calls, each about linear)` says where most of a routine's cost
-comes from: the routine below it with the greatest own cost, with the short calls that
-it makes. The part is of the routine's cost, with look_up's callees; `through X` where
-the routine calls X and that leads there. What each call is like is told where the
-points show that it makes the routine superlinear.
+comes from: the routine below it with the greatest own cost, with the short calls and
+those of the C library that it makes. The part is of the routine's cost, with look_up's
+callees; `through X` where the routine calls X and that leads there. What each call is
+like is told where the points show that it makes the routine superlinear.
 ESTIMATE is the greatest cost at two and ten times the largest size, by the growth.
 SPREAD is the greatest ratio of costs at one size. POINTS is the number of sizes: a
 report has a point, with its costs, for each. A WORD is the greatest cost divided by

@@ -127,6 +127,10 @@ class Reasons(unittest.TestCase):
                 cause = row_of(profile, name).cause
                 assert cause
                 self.assertEqual(cause.routine.name, wanted)
+        same = [Call("parse", 9, 1, [Call("look_up", 5, 1, [Call("strcmp", 8 + j % 16, 99) for j in range(9)])])]
+        run = Run([Call("_start", 9, 1, [Call("main", 9, 1, [*same, *map(Call, names[4:7])])])], addresses)
+        cause = row_of(join([report_of(run.text(contexts=True))]), "parse").cause
+        self.assertTrue(cause and cause.routine.name == "look_up")
         text = summary(profile, rows_of(profile), Choice(), 80)
         self.assertTrue(any(line.startswith("*x2.0") and line.endswith(" look_up") for line in text))
 
