@@ -90,6 +90,7 @@ class Hints:
                     return [f"an empty word names a file{instead}"]
                 quoted = shlex.quote(f"={path}")
                 line = f"{path}: {why}" + (f"; a word names a file: write {quoted} for an argument" if is_word else "")
+                line += f"; {DASH}" if path == "-" else ""
                 return [line, *self.run_together()]
         return []
 
@@ -224,6 +225,7 @@ class Hints:
         return [f"{self.image()} is not a trace as `aprof trace` stores it: {text}; store it again"] if text else []
 
 
+DASH = "/dev/stdin is standard input"
 RUN_TOGETHER = ("utput", "ut", "utfile")
 SO_FAR = "what is stored is of the run so far"
 OTHER_RUNS = "of other words or input, of another build, or of the image by another path"

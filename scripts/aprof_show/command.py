@@ -14,7 +14,7 @@ from aprof_show.detail import detail, notes
 from aprof_show.heading import open_lines
 from aprof_show.inputs import ROUTINE_HINT, joined, name_by_image, read_all
 from aprof_show.joining import CannotJoin, join_caches
-from aprof_show.kinship import strange_pair, strangers, without_contexts
+from aprof_show.kinship import repeated, strange_pair, strangers, without_contexts
 from aprof_show.limits import above, above_text, not_judged, unreturned
 from aprof_show.model import CacheReport, Context, Profile, Report, Routine
 from aprof_show.names import shorten
@@ -77,7 +77,7 @@ def run(options: argparse.Namespace) -> int:
         return compare(options, profile, rows, names)
     wanted = all_named(profile.routines, names)
     check(options, names, kind_of(options, names))
-    warn([*strangers(profile.reports), *without_contexts(profile.reports)])
+    warn([*repeated(profile.reports), *strangers(profile.reports), *without_contexts(profile.reports)])
     check_order(options.by, profile)
     if options.fail_above is not None:
         return judge(profile, rows, options, wanted)
@@ -164,7 +164,7 @@ def compare(options: argparse.Namespace, new: Profile, new_rows: Sequence[Row], 
     wanted = all_named([*new.routines, *old.routines], names)
     check(options, names, kind_of(options, names))
     for reports in (old.reports, new.reports):
-        warn([*strangers(reports), *without_contexts(reports)])
+        warn([*repeated(reports), *strangers(reports), *without_contexts(reports)])
     warn(strange_pair(old.reports, new.reports))
     print_lines(against_text(old_rows, new_rows, (old.steps, new.steps), choice_of(options), width(), wanted))
     return judge(new, new_rows, options, wanted) if options.fail_above is not None else 0

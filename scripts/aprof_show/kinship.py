@@ -1,6 +1,7 @@
-"""Whether reports are of one program: warnings where they hardly can be."""
+"""Whether reports are of one program and each is another one: warnings where they hardly can be."""
 from __future__ import annotations
 
+import os
 from collections.abc import Iterator, Sequence
 
 from aprof_show.library import musl_names
@@ -49,6 +50,17 @@ def strangers(reports: Sequence[Report]) -> Iterator[str]:
             what = "hardly a routine in common" if few_names(first, other) else "most routines at other addresses"
             yield f"{reports[0].path} and {report.path} have {what}: of different programs or builds?"
             return
+
+
+def repeated(reports: Sequence[Report]) -> Iterator[str]:
+    """A warning where a file is given twice, perhaps in a folder too."""
+    seen: set[str] = set()
+    for report in reports:
+        path = os.path.realpath(report.path)
+        if path in seen:
+            yield f"{report.path} is given twice, and counts twice"
+            return
+        seen.add(path)
 
 
 def without_contexts(reports: Sequence[Report]) -> Iterator[str]:

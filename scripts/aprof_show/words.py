@@ -68,6 +68,8 @@ def refuse_empty(options: argparse.Namespace) -> None:
 def missing_text(options: argparse.Namespace, names: Sequence[str]) -> str:
     """What is said where no word is a report."""
     missing = f"no file {names[0]}" if names else "a report is wanted"
+    if names[:1] == ["-"]:
+        return f"{missing}: /dev/stdin is standard input"
     if options.callers and os.path.exists(options.callers):
         missing = f"{options.callers} is a file; {BEHIND_CALLERS}"
     elif options.against and not names:

@@ -57,6 +57,7 @@ HINTS: Sequence[tuple[str | Sequence[str], int, Sequence[str]]] = (
     ("run -o r nothing", 2, ["aprof: nothing: no such file\n"]),
     ("run -o r . =1", 2, ["aprof: .: it is a folder\n"]),
     ("run -o r --stdin none bubble", 2, ["aprof: none: no such file\n"]),
+    ("run -o r --stdin - bubble", 2, ["aprof: -: no such file; /dev/stdin is standard input\n"]),
     ("run -o r bubble =1", 4, ["no room"]),
     ("run -o r bubble =1", 6,
      ["ended after 1000000000 instructions", "./aprof contexts -o contexts.txt bubble =1\n", "./aprof show --open --image bubble contexts.txt\n"]),

@@ -11,6 +11,7 @@ NO_REPORT = "not a report of aprof, whose first line is `aprof 2`"
 MISTAKES: list[tuple[list[str], str]] = [
     ([], "show: a report is wanted; `show --help` tells more"),
     (["nope"], "show: no file nope"),
+    (["-"], "show: no file -: /dev/stdin is standard input\n"),
     ([WORDS, "nope"], "show: no file and no routine called nope; there is fopen (--all lists them)\n"),
     ([WORDS, "qqq"], "show: no file and no routine called qqq (--all lists them)\n"),
     ([WORDS, "fnd"], "show: no file and no routine called fnd; there is find (--all lists them)\n"),

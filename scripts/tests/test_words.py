@@ -195,6 +195,16 @@ class Programs(unittest.TestCase):
             self.assertEqual(warned("--against", paths[1], *paths), said)
             self.assertEqual(warned("--against", *paths), "")
 
+    def test_a_report_given_twice(self) -> None:
+        with tempfile.TemporaryDirectory() as folder:
+            path, link = self.run_of(folder, "a", {"parse": 0x11000}), Path(folder, "b")
+            link.symlink_to(path)
+            other = self.run_of(folder, "c", {"parse": 0x11000})
+            self.assertEqual(warned(path, other), "")
+            for words, said in (([path, path], path), ([other, path, str(link)], str(link)), ([path, folder], path)):
+                with self.subTest(words):
+                    self.assertEqual(warned(*words), f"show: warning: {said} is given twice, and counts twice\n")
+
     def test_growth_between_two_sizes(self) -> None:
         names = {"parse": 0x11000}
         with tempfile.TemporaryDirectory() as folder:
