@@ -91,7 +91,7 @@ def parser() -> argparse.ArgumentParser:
     add = result.add_argument
     add("words", metavar="REPORT | ROUTINE", nargs="*", help="a file, a folder of such files, or a routine's name or address")
     add_choices(result)
-    add("--image", metavar="IMAGE", help="the executable: for names, files and lines")
+    add("--image", metavar="IMAGE", help="the executable: for names, and the file and line where a routine begins")
     add("--against", metavar="OLD", help="compare with this earlier report, or a folder of them")
     above = "status 1 if a growth, or what it rises to (^), exceeds FACTOR and is not marked ~"
     add("--fail-above", metavar="FACTOR", type=factor, help=above)
