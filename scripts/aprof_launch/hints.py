@@ -91,6 +91,7 @@ class Hints:
                 quoted = shlex.quote(f"={path}")
                 line = f"{path}: {why}" + (f"; a word names a file: write {quoted} for an argument" if is_word else "")
                 line += f"; {DASH}" if path == "-" else ""
+                line += "; IMAGE stands without `=`" if path == self.image() and path.startswith("=") else ""
                 return [line, *self.run_together()]
         return []
 
@@ -101,9 +102,12 @@ class Hints:
         return [f"{self.image()}: {rows[0]}", *rows[1:], *self.run_together()] if rows else []
 
     def run_together(self) -> list[str]:
-        """What is said where `-output` was read as `-o utput`, so that the file behind it was taken for the image."""
+        """What is said where `-output` was read as `-o utput`, or -o took the image, so that the word behind was taken for the
+        image."""
         path = self.output
-        return [f"(-o{path} was read as -o {path}: write -o PATH)"] if path in RUN_TOGETHER else []
+        if path in RUN_TOGETHER:
+            return [f"(-o{path} was read as -o {path}: write -o PATH)"]
+        return [f"(-o takes the path of the report, and {path} is an executable: write -o PATH {path})"] if images.is_elf(path) else []
 
     def unwritten(self) -> list[str]:
         if sys.stdout is None:

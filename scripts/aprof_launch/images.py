@@ -1,6 +1,7 @@
 """What is wrong with a file that is no image, where README's table tells less."""
 from __future__ import annotations
 
+import os
 import struct
 from pathlib import Path
 
@@ -18,6 +19,15 @@ PROCESSORS = {3: "x86", 8: "MIPS", 20: "PowerPC", 40: "ARM", 62: "x86-64", 183: 
 
 COMPRESSED, FLOATS, FEW_REGISTERS = 1, 6, 8
 """The bits of e_flags that a file is refused for."""
+
+
+def is_elf(path: str) -> bool:
+    """Whether a plain file is an executable, by its begin."""
+    try:
+        with open(path if os.path.isfile(path) else os.devnull, "rb") as file:
+            return file.read(len(HEAD)) == HEAD
+    except OSError:
+        return False
 
 
 def why_bad(path: str) -> str:

@@ -55,6 +55,7 @@ HINTS: Sequence[tuple[str | Sequence[str], int, Sequence[str]]] = (
     ("run -o r bubble fine", 1, ["usage: aprof run"]),
     ("run -o r bubble 100", 2, ["aprof: 100: no such file; a word names a file: write =100 for an argument\n"]),
     ("run -o r nothing", 2, ["aprof: nothing: no such file\n"]),
+    ("run -o r =bubble", 2, ["aprof: =bubble: no such file; IMAGE stands without `=`\n"]),
     ("run -o r . =1", 2, ["aprof: .: it is a folder\n"]),
     ("run -o r --stdin none bubble", 2, ["aprof: none: no such file\n"]),
     ("run -o r --stdin - bubble", 2, ["aprof: -: no such file; /dev/stdin is standard input\n"]),
@@ -185,6 +186,13 @@ class Words(Launched):
         for words, status, text in (("run -output r bubble", 2, "cannot read r"), ("run -output text bubble", 3, "image 2")):
             done = self.run_words(words, status, FAKE_TEXT=text)
             self.assertIn("(-output was read as -o utput: write -o PATH)\n", done.stderr)
+
+    def test_an_image_as_the_output(self) -> None:
+        """`-o` took the image, and the word behind it stands for the image then."""
+        for words, status, text in (("run -o bubble text", 3, "image 2"), ("run -o bubble none", 2, "cannot read none")):
+            done = self.run_words(words, status, FAKE_TEXT=text)
+            said = "(-o takes the path of the report, and bubble is an executable: write -o PATH bubble)\n"
+            self.assertTrue(done.stderr.endswith(said), done.stderr)
 
     def test_report_as_trace(self) -> None:
         (self.folder / "old").write_text("aprof 2\nend exit 0\nsteps 3\nopen 0\ndone 0\n")
