@@ -45,7 +45,8 @@ class Hints:
             return "; where memory is short the system sends it"
         if number == signal.SIGXFSZ:
             is_lost = os.environ.get("APROF_OLDER") and not os.path.exists(self.output)
-            return "; a file has at most the size that `ulimit -f` says" + (f"; what was at {self.output} before is lost" * bool(is_lost))
+            lost = f"; what was at {self.output} before is lost" if is_lost else ""
+            return f"; a file has at most the size that `ulimit -f` says{lost}"
         return ""
 
     def asked_again(self, *words: str) -> int | None:
@@ -107,7 +108,8 @@ class Hints:
         path = self.output
         if path in RUN_TOGETHER:
             return [f"(-o{path} was read as -o {path}: write -o PATH)"]
-        return [f"(-o takes the path of the report, and {path} is an executable: write -o PATH {path})"] if images.is_elf(path) else []
+        took = f"(-o takes the path of the report, and {path} is an executable: write -o PATH {path})"
+        return [took] if images.is_elf(path) else []
 
     def unwritten(self) -> list[str]:
         if sys.stdout is None:

@@ -36,7 +36,8 @@ def detail(row: Row, room: int, place: str | None = None) -> list[str]:
     if not routine.points:
         return [*lines, "no call of it had returned at the end"]
     sizes = "one size" if len(routine.points) == 1 else "one size other than 0"
-    told = growth_lines(row, row.growth) if row.growth else [f"{sizes}: nothing to tell of growth; `show` joins reports of several inputs"]
+    nothing = f"{sizes}: nothing to tell of growth; `show` joins reports of several inputs"
+    told = growth_lines(row, row.growth) if row.growth else [nothing]
     lines += [part for line in told for part in wrapped(line, room)]
     return lines + table(columns_of(routine.points), room)
 

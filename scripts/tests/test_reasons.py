@@ -118,8 +118,8 @@ class Reasons(unittest.TestCase):
         """What the library's routines cost counts as that of the program's routine that calls them, where one is below."""
         names = ["main", "parse", "look_up", "_start", "__libc_start_main", "malloc", "free", "strcmp"]
         addresses = {name: 0x10000 + 16 * place for place, name in enumerate(names)}
-        looks = [[Call("look_up", k, k, [Call("strcmp", 8 + j % 16, 8 + j % 16) for j in range(k)]) for k in range(2, n)] for n in SIZES]
-        calls = [Call("parse", size, size, inner) for size, inner in zip(SIZES, looks)]
+        compared = [Call("strcmp", 8 + j % 16, 8 + j % 16) for j in range(SIZES[-1])]
+        calls = [Call("parse", n, n, [Call("look_up", k, k, compared[:k]) for k in range(2, n)]) for n in SIZES]
         run = Run([Call("_start", 9, 1, [Call("main", 9, 1, [*calls, *map(Call, names[4:7])])])], addresses)
         profile = join([report_of(run.text(contexts=True))])
         for name, wanted in (("main", "look_up"), ("parse", "look_up"), ("look_up", "strcmp")):
