@@ -1,86 +1,128 @@
 #!/usr/bin/env python3
-"""bench/gate.py: runs the gate at the top of the repository and prints what it cost: minutes by the clock, processor minutes in
-all, and processor minutes by crate, of its proof, of the proof of its tests, of the check that its must-fail edits begin with, and
-of the edits. The sum is the system's own count of all that the gate started. What is told by crate comes from a look at the
-processes twice a second, so that up to half a second of each is missing. docs/PERFORMANCE.md has a table of them."""
-import collections
+"""bench/gate.py [COMMAND]: runs the gate (`rt ci`, or another command) at the top of the repository and prints what it cost:
+minutes by the clock, processor minutes in all, and processor minutes by crate, of its proof, of the proof of its tests, of
+the check that its must-fail edits begin with, and of the edits. The sum is the system's own count of all that the gate
+started. What is told by crate comes from a look at the processes twice a second, so that up to half a second of each is
+missing. docs/PERFORMANCE.md has some of these figures."""
+from __future__ import annotations
+
+import argparse
 import os
-import re
 import resource
 import subprocess
 import sys
 import time
+from collections import defaultdict
+from collections.abc import Iterator, Sequence, Set
+from dataclasses import dataclass
+from pathlib import Path
 
-TOP = os.path.join(os.path.dirname(os.path.abspath(__file__)), "..")
+import host
+from host import TOP
+
 TICKS = os.sysconf("SC_CLK_TCK")
-KINDS = ["proof", "tests", "first", "edits", "built"]
+KINDS = ("proof", "tests", "first", "edits", "built")
 
 
-def read(path):
+@dataclass(frozen=True)
+class Work:
+    """What a process of the checker is at work on: a crate, and what of it, one of KINDS."""
+
+    crate: str
+    kind: str
+
+
+def read(path: str) -> str:
     """A file of /proc, or nothing where its process has ended."""
     try:
-        with open(path, "rb") as file:
-            return file.read().decode(errors="replace")
+        return Path(path).read_text(errors="replace")
     except OSError:
         return ""
 
 
-def seconds(pid):
+def fields(pid: str) -> list[str]:
+    """The fields of a process behind its name: its state, its parent, and so on; or none where it has ended."""
+    return read(f"/proc/{pid}/stat").rpartition(")")[2].split()
+
+
+def seconds(pid: str) -> float:
     """The processor seconds of a process so far."""
-    fields = read(f"/proc/{pid}/stat").rpartition(")")[2].split()
-    return (int(fields[11]) + int(fields[12])) / TICKS if len(fields) > 12 else 0.0
+    found = fields(pid)
+    return (int(found[11]) + int(found[12])) / TICKS if len(found) > 12 else 0.0
 
 
-def is_below(pid, gate):
+def is_below(pid: str, gate: int) -> bool:
     """Whether a process was started by the gate, by its parents."""
     while pid not in ("", "0", "1", str(gate)):
-        fields = read(f"/proc/{pid}/stat").rpartition(")")[2].split()
-        pid = fields[1] if len(fields) > 1 else ""
+        found = fields(pid)
+        pid = found[1] if len(found) > 1 else ""
     return pid == str(gate)
 
 
-def kind_of(words, begun):
-    """The crate that a process of the checker is at work on, and with what."""
+def kind_of(words: Sequence[str], begun: Set[str]) -> Work:
+    """The work of a process of the checker, by its words and the crates whose edits have begun."""
     crate = words[words.index("--crate-name") + 1]
     if "--incremental" in words and "rt-edits-" in words[words.index("--incremental") + 1]:
-        first = crate not in begun
-        begun.add(crate)
-        return crate, "first" if first else "edits"
+        return Work(crate, "edits" if crate in begun else "first")
     if words[1] == "build" and "--crate-checked" in words:
-        return crate, "built"
-    return crate, "tests" if "--test" in words else "proof"
+        return Work(crate, "built")
+    return Work(crate, "tests" if "--test" in words else "proof")
 
 
-def watch(gate, spent):
-    """Looks at the processes of the checker until the gate has ended."""
-    kinds, begun = {}, set()
+def is_checker(words: Sequence[str]) -> bool:
+    """Whether a process of these words is of the checker, at work on a crate."""
+    return Path(words[0]).name == "rattle" and "--crate-name" in words
+
+
+def watch(gate: subprocess.Popen[bytes]) -> dict[tuple[Work, str], float]:
+    """Looks at the processes of the checker until the gate has ended: their processor seconds, by work and process."""
+    works: dict[str, Work] = {}
+    begun: set[str] = set()
+    spent: dict[tuple[Work, str], float] = {}
     while gate.poll() is None:
         for pid in filter(str.isdigit, os.listdir("/proc")):
-            if pid not in kinds:
-                words = read(f"/proc/{pid}/cmdline").split("\0")
-                is_checker = os.path.basename(words[0]) == "rattle" and "--crate-name" in words
-                if is_checker and is_below(pid, gate.pid):
-                    kinds[pid] = kind_of(words, begun)
-            if pid in kinds:
-                spent[kinds[pid], pid] = max(spent[kinds[pid], pid], seconds(pid))
+            words = read(f"/proc/{pid}/cmdline").split("\0") if pid not in works else []
+            if words and is_checker(words) and is_below(pid, gate.pid):
+                works[pid] = kind_of(words, begun)
+                if works[pid].kind == "first":
+                    begun.add(works[pid].crate)
+            if pid in works:
+                key = works[pid], pid
+                spent[key] = max(spent.get(key, 0.0), seconds(pid))
         time.sleep(0.5)
+    return spent
 
 
-def main():
-    began, spent = time.monotonic(), collections.defaultdict(float)
-    gate = subprocess.Popen(sys.argv[1:] or ["rt", "ci"], cwd=TOP)
-    watch(gate, spent)
-    used = resource.getrusage(resource.RUSAGE_CHILDREN)
-    rows = collections.defaultdict(lambda: dict.fromkeys(KINDS, 0.0))
-    for ((crate, kind), _), took in spent.items():
-        rows[crate][kind] += took / 60
-    print("| Crate | Proof | Tests | First check of the edits | Edits | Two builds |\n|---|---|---|---|---|---|")
+def minutes_of(spent: dict[tuple[Work, str], float]) -> dict[str, dict[str, float]]:
+    """Processor minutes by crate and kind."""
+    rows: dict[str, dict[str, float]] = defaultdict(lambda: dict.fromkeys(KINDS, 0.0))
+    for (work, _), took in spent.items():
+        rows[work.crate][work.kind] += took / 60
+    return rows
+
+
+def table(rows: dict[str, dict[str, float]]) -> Iterator[str]:
+    """The lines of the table; what is less than 0.05 of a crate is left blank."""
+    yield "| Crate | Proof | Tests | First check of the edits | Edits | Two builds |"
+    yield "|---|---|---|---|---|---|"
     for crate, row in rows.items():
-        print(f"| {crate} | " + " | ".join(f"{row[kind]:.1f}" if row[kind] >= 0.05 else "" for kind in KINDS) + " |")
-    print("| in all | " + " | ".join(f"{sum(row[kind] for row in rows.values()):.1f}" for kind in KINDS) + " |")
+        yield f"| {crate} | " + " | ".join(f"{row[kind]:.1f}" if row[kind] >= 0.05 else "" for kind in KINDS) + " |"
+    yield "| in all | " + " | ".join(f"{sum(row[kind] for row in rows.values()):.1f}" for kind in KINDS) + " |"
+
+
+def main() -> int:
+    """The status is the gate's."""
+    parser = host.parser(__doc__)
+    parser.add_argument("command", metavar="COMMAND", nargs=argparse.REMAINDER, help="`rt ci` unless given")
+    command = parser.parse_args().command or ["rt", "ci"]
+    began = time.monotonic()
+    gate = subprocess.Popen(command, cwd=TOP)
+    print("\n".join(table(minutes_of(watch(gate)))))
+    used = resource.getrusage(resource.RUSAGE_CHILDREN)
     print(f"{(time.monotonic() - began) / 60:.1f} minutes on {len(os.sched_getaffinity(0))} processors,", end=" ")
     print(f"{(used.ru_utime + used.ru_stime) / 60:.1f} processor minutes; status {gate.returncode}")
     return gate.returncode
 
 
-sys.exit(main())
+if __name__ == "__main__":
+    sys.exit(main())

@@ -2,6 +2,7 @@
 from __future__ import annotations
 
 import struct
+from collections.abc import Callable
 from dataclasses import dataclass, field
 
 BASE = 0x10000
@@ -76,14 +77,22 @@ def syscall(nr: int) -> list[int]:
 EXIT = [addi(10, 0, 0), *syscall(94)]
 
 
+@dataclass(frozen=True)
+class Late:
+    """A place that waits for its label, and what stands there, by how many bytes the label is behind it."""
+
+    place: int
+    label: str
+    make: Callable[[int], list[int]]
+
+
 @dataclass
 class Code:
     """Code whose jumps go to labels."""
 
     words: list[int] = field(default_factory=list)
     labels: dict[str, int] = field(default_factory=dict)
-    late: list[tuple[int, str, tuple[int, ...]]] = field(default_factory=list)
-    """The places that wait for a label, what stands there, and its registers."""
+    late: list[Late] = field(default_factory=list)
 
     def put(self, *words: int) -> None:
         self.words += words
@@ -91,29 +100,26 @@ class Code:
     def label(self, name: str) -> None:
         self.labels[name] = len(self.words)
 
+    def put_late(self, label: str, size: int, make: Callable[[int], list[int]]) -> None:
+        """Leaves so many words free until the label is known."""
+        self.late.append(Late(len(self.words), label, make))
+        self.put(*[0] * size)
+
     def jump(self, rd: int, label: str) -> None:
-        self.late.append((len(self.words), label, (rd,)))
-        self.put(0)
+        self.put_late(label, 1, lambda offset: [jal(rd, offset)])
 
     def branch(self, funct3: int, rs1: int, rs2: int, label: str) -> None:
-        self.late.append((len(self.words), label, (funct3, rs1, rs2)))
-        self.put(0)
+        self.put_late(label, 1, lambda offset: [branch(funct3, rs1, rs2, offset)])
 
     def address(self, rd: int, label: str) -> None:
         """Puts the address of a label into a register."""
-        self.late.append((len(self.words), label, ()))
-        self.put(*number(rd, 0))
+        here = BASE + HEADERS + 4 * len(self.words)
+        self.put_late(label, 2, lambda offset: number(rd, here + offset))
 
     def finish(self) -> list[int]:
-        for place, label, registers in self.late:
-            offset = 4 * (self.labels[label] - place)
-            if not registers:
-                rd = self.words[place] >> 7 & 31
-                self.words[place : place + 2] = number(rd, BASE + HEADERS + 4 * self.labels[label])
-            elif len(registers) == 1:
-                self.words[place] = jal(registers[0], offset)
-            else:
-                self.words[place] = branch(*registers, offset)
+        for late in self.late:
+            made = late.make(4 * (self.labels[late.label] - late.place))
+            self.words[late.place : late.place + len(made)] = made
         return self.words
 
 

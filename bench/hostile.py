@@ -6,27 +6,23 @@ address down, by `run`, and by `cache` where each writes a word. Of the last thr
 guest's are counted too, on shorter runs."""
 from __future__ import annotations
 
-import os
-import pathlib
 import struct
 import subprocess
 import sys
 import tempfile
-import time
-from collections.abc import Callable
+from collections.abc import Callable, Sequence
+from pathlib import Path
 
-import run
+import host
 from guests import BASE, BNE, EXIT, HEADERS, RETURN, addi, branch, image, jal, jalr, lw, number, sw
-
-TOP = pathlib.Path(__file__).resolve().parent.parent
-RUN = ["run"]
+from host import CACHE, RUN, TOP, Bench
 
 
 def headers() -> bytes:
     """The file of the worked row."""
     with tempfile.TemporaryDirectory() as folder:
         subprocess.run([sys.executable, TOP / "rows/headers-65534/setup.py"], cwd=folder, check=True)
-        return (pathlib.Path(folder) / "img").read_bytes()
+        return (Path(folder) / "img").read_bytes()
 
 
 def symbols(count: int) -> bytes:
@@ -79,40 +75,45 @@ def writing(count: int) -> bytes:
     return routines(count, [sw(0, -4, 2), RETURN])
 
 
-def count_host(name: str, guest: Callable[[int], bytes], command: list[str]) -> None:
-    """Host instructions for one of the guest's, as the guest grows."""
-    run.COMMAND = command
+def count_host(bench: Bench, name: str, guest: Callable[[int], bytes]) -> None:
+    """Prints the host's instructions for one of the guest's, as the guest grows."""
     for size in (2500, 5000):
-        with tempfile.TemporaryDirectory() as folder:
-            (few, less), (many, more) = (run.host(guest(count), folder, []) for count in (size, 2 * size))
-        print(f"from {size} to {2 * size} {name}: {(more - less) / (many - few):.0f} host instructions a step")
+        few, many = (bench.cost(guest(count)) for count in (size, 2 * size))
+        print(f"from {size} to {2 * size} {name}: {many.beyond(few).a_step:.0f} host instructions a step")
 
 
-def measure(program: str, name: str, image: bytes, command: list[str]) -> None:
+def first_routine(report: Path) -> list[str]:
+    """The line of the report's first routine, if there is one."""
+    lines = report.read_text().splitlines() if report.exists() else []
+    return [line for line in lines if line.startswith("routine")][:1]
+
+
+def measure(program: Path, name: str, file: bytes, command: Sequence[str] = RUN) -> None:
+    """Prints what a run of a file takes."""
     with tempfile.TemporaryDirectory() as folder:
-        path = os.path.join(folder, "img")
-        pathlib.Path(path).write_bytes(image)
-        begin = time.monotonic()
-        child = subprocess.Popen([program, *command, "-o", os.path.join(folder, "r"), path], stderr=subprocess.DEVNULL)
-        _, status, usage = os.wait4(child.pid, 0)
-        seconds = time.monotonic() - begin
-        report = pathlib.Path(folder, "r")
-        routine = [line for line in report.read_text().splitlines() if line.startswith("routine")][:1] if report.exists() else []
-        took = f"{seconds:.2f} s ({usage.ru_utime + usage.ru_stime:.2f} s of the processor), {usage.ru_maxrss / 1024:.0f} MiB"
-        print(f"{name}: {len(image)} bytes, status {os.waitstatus_to_exitcode(status)}, {took}, {str(routine)[:60]}")
+        guest, report = Path(folder, "img"), Path(folder, "r")
+        guest.write_bytes(file)
+        ended = host.run([program, *command, "-o", report, guest], stderr=subprocess.DEVNULL)
+        took = f"{ended.clock:.2f} s ({ended.processor:.2f} s of the processor), {ended.memory / 1024:.0f} MiB"
+        print(f"{name}: {len(file)} bytes, status {ended.status}, {took}, {str(first_routine(report))[:60]}")
 
 
 def main() -> None:
-    program = os.path.abspath(sys.argv[1])
-    measure(program, "65534 headers", headers(), RUN)
-    measure(program, "400000 symbols", symbols(400_000), RUN)
-    measure(program, "100000 falling sizes", falling(100_000), RUN)
-    measure(program, "100000 falling routines", returning(100_000), RUN)
-    measure(program, "100000 falling routines, cache", writing(100_000), run.CACHE)
-    run.PROGRAM = program
-    count_host("falling sizes", falling, RUN)
-    count_host("falling routines", returning, RUN)
-    count_host("falling routines, cache", writing, run.CACHE)
+    """Prints all."""
+    parser = host.parser(__doc__)
+    parser.add_argument("program", metavar="PROGRAM", type=host.program, help="the built aprof")
+    program = parser.parse_args().program
+    measure(program, "65534 headers", headers())
+    measure(program, "400000 symbols", symbols(400_000))
+    measure(program, "100000 falling sizes", falling(100_000))
+    measure(program, "100000 falling routines", returning(100_000))
+    measure(program, "100000 falling routines, cache", writing(100_000), CACHE)
+    with tempfile.TemporaryDirectory() as made:
+        folder = Path(made)
+        count_host(Bench(program, folder), "falling sizes", falling)
+        count_host(Bench(program, folder), "falling routines", returning)
+        count_host(Bench(program, folder, CACHE), "falling routines, cache", writing)
 
 
-main()
+if __name__ == "__main__":
+    main()

@@ -3,15 +3,20 @@
 callgrind, as the difference of two numbers of rounds. It proves and builds a program of its own in a folder of its own, over
 this repository's crates stamps and stamp_lanes. Each kernel and each loop stands in a function of its own that is not
 inlined. It prints a table of the counts, and one of the vector instructions in the code of each kernel at each width."""
-import collections
-import os
+from __future__ import annotations
+
 import re
 import shutil
 import subprocess
 import sys
 import tempfile
+from collections import Counter
+from dataclasses import dataclass
+from pathlib import Path
 
-TOP = os.path.dirname(os.path.dirname(os.path.abspath(__file__)))
+import host
+from host import TOP, Word
+
 # Each kernel, and the function of the program that holds it.
 KERNELS = {
     "least_greatest": "lanes_extremes",
@@ -275,60 +280,82 @@ fn main(rt: HostRuntime) -> ExitCode {
 """
 
 
-def build(room):
+def source() -> str:
+    """The source of the program."""
+    widths = (WIDTH.replace("STAMP", width).replace("NAME", width).replace("MOST", str(WIDTHS[width])) for width in WIDTHS)
+    return "".join([HEAD, *widths, MAIN])
+
+
+def build(room: Path) -> Path:
     """Builds the program in the folder and returns its path."""
-    for crate in ("stamps", "stamp_lanes"):
-        shutil.copytree(f"{TOP}/crates/{crate}", f"{room}/crates/{crate}")
-    os.makedirs(f"{room}/crates/lanes_bench/src")
-    with open(f"{room}/crates/lanes_bench/src/main.rt", "w", encoding="utf-8") as it:
-        it.write(HEAD)
-        for width, most in WIDTHS.items():
-            it.write(WIDTH.replace("STAMP", width).replace("NAME", width).replace("MOST", str(most)))
-        it.write(MAIN)
-    with open(f"{room}/crates.txt", "w", encoding="utf-8") as it:
-        it.write("stamps:\nstamp_lanes: stamps\nlanes_bench: stamps stamp_lanes\n")
-    ran = subprocess.run(["rt", "run"], cwd=f"{room}/crates/lanes_bench", capture_output=True, text=True)
-    program = f"{room}/crates/lanes_bench/out/lanes_bench"
-    if not os.path.exists(program):
+    crate = room / "crates/lanes_bench"
+    for name in ("stamps", "stamp_lanes"):
+        shutil.copytree(TOP / "crates" / name, room / "crates" / name)
+    (crate / "src").mkdir(parents=True)
+    (crate / "src/main.rt").write_text(source(), encoding="utf-8")
+    (room / "crates.txt").write_text("stamps:\nstamp_lanes: stamps\nlanes_bench: stamps stamp_lanes\n", encoding="utf-8")
+    ran = subprocess.run(["rt", "run"], cwd=crate, capture_output=True, text=True)
+    program = crate / "out/lanes_bench"
+    if not program.exists():
         sys.exit(ran.stdout[-3000:] + ran.stderr[-3000:])
     return program
 
 
-def instructions(program, words):
-    """The host instructions of one run."""
-    how = ["valgrind", "--tool=callgrind", "--callgrind-out-file=/dev/null", program, *map(str, words)]
-    said = subprocess.run(how, capture_output=True, text=True).stderr
-    return int(re.search(r"Collected : (\d+)", said)[1])
+@dataclass(frozen=True)
+class Program:
+    """The built program."""
+
+    path: Path
+
+    def cost(self, kernel: int, width: int, by_lanes: bool) -> float:
+        """The host's instructions of a round, with the kernel or with the plain loop."""
+        words: list[Word] = [self.path, str(kernel), str(width), str(int(by_lanes))]
+        few, many = (host.instructions([*words, rounds], check=False) for rounds in ("10", "110"))
+        return (many - few) / 100
+
+    def body(self, function: str) -> str:
+        """The code of a function, as objdump prints it."""
+        said = subprocess.run(["objdump", "-d", "--no-show-raw-insn", self.path], capture_output=True, text=True).stdout
+        bodies: list[str] = re.findall(rf"^[0-9a-f]+ <[^\n]*\b{function}\b[^\n]*>:\n((?:.+\n)*)", said, re.MULTILINE)
+        if len(bodies) != 1:
+            sys.exit(f"{function}: {len(bodies)} functions of that name")
+        return bodies[0]
 
 
-def vectors(program, function):
+def vectors(body: str) -> str:
     """The vector instructions in a function's code, without plain moves, and how often each stands there."""
-    said = subprocess.run(["objdump", "-d", "--no-show-raw-insn", program], capture_output=True, text=True).stdout
-    bodies = re.findall(rf"^[0-9a-f]+ <[^\n]*\b{function}\b[^\n]*>:\n((?:.+\n)*)", said, re.MULTILINE)
-    if len(bodies) != 1:
-        sys.exit(f"{function}: {len(bodies)} functions of that name")
-    names = re.findall(r":\t(\w+) [^\n]*%xmm", bodies[0])
-    counts = collections.Counter(name for name in names if not name.startswith("mov") or "msk" in name)
+    names: list[str] = re.findall(r":\t(\w+) [^\n]*%xmm", body)
+    counts = Counter(name for name in names if not name.startswith("mov") or "msk" in name)
     return ", ".join(f"`{name}` {count}" for name, count in sorted(counts.items())) or "none"
 
 
-def main():
+def count(program: Program) -> None:
+    """Prints the counts."""
+    print("| Kernel | Width | Plain | Lanes | Times |")
+    print("|---|---|---|---|---|")
+    for k, kernel in enumerate(KERNELS):
+        for w, width in enumerate(WIDTHS):
+            plain, lanes = (program.cost(k, w, by_lanes) for by_lanes in (False, True))
+            print(f"| {kernel} | {width} | {plain:.0f} | {lanes:.0f} | {plain / lanes:.1f} |")
+
+
+def list_vectors(program: Program) -> None:
+    """Prints the vector instructions."""
+    print("\n| Kernel | Width | Vector instructions |")
+    print("|---|---|---|")
+    for kernel, holder in KERNELS.items():
+        for width in WIDTHS:
+            print(f"| {kernel} | {width} | {vectors(program.body(f'{holder}_{width}'))} |")
+
+
+def main() -> None:
+    """Prints both tables."""
+    host.parser(__doc__).parse_args()
     with tempfile.TemporaryDirectory(prefix="lanes-") as room:
-        program = build(room)
-        print("| Kernel | Width | Plain | Lanes | Times |")
-        print("|---|---|---|---|---|")
-        for k, kernel in enumerate(KERNELS):
-            for w, width in enumerate(WIDTHS):
-                costs = []
-                for by_lanes in (0, 1):
-                    few, many = (instructions(program, [k, w, by_lanes, rounds]) for rounds in (10, 110))
-                    costs.append((many - few) / 100)
-                print(f"| {kernel} | {width} | {costs[0]:.0f} | {costs[1]:.0f} | {costs[0] / costs[1]:.1f} |")
-        print("\n| Kernel | Width | Vector instructions |")
-        print("|---|---|---|")
-        for kernel, holder in KERNELS.items():
-            for width in WIDTHS:
-                print(f"| {kernel} | {width} | {vectors(program, f'{holder}_{width}')} |")
+        program = Program(build(Path(room)))
+        count(program)
+        list_vectors(program)
 
 
-main()
+if __name__ == "__main__":
+    main()

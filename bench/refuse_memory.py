@@ -2,13 +2,20 @@
 """bench/refuse_memory.py PROGRAM [FIRST [STEP]]: refuses one allocation after another to a command with all options, by a
 shim under the C library's allocator, and looks at what each call leaves: the result without a failure, or status 10 with a
 first part of it. The last line counts the calls. The shim is built by cc."""
-import pathlib
+from __future__ import annotations
+
+import argparse
 import subprocess
 import sys
 import tempfile
+from collections import Counter
+from dataclasses import dataclass, field
+from pathlib import Path
 
-HERE = pathlib.Path(__file__).resolve().parent
-ROW = HERE.parent / "rows" / "nothing-fails"
+import host
+from host import TOP, Word
+
+ROW = TOP / "rows/nothing-fails"
 
 SHIM = r"""
 #define _GNU_SOURCE
@@ -85,66 +92,99 @@ __attribute__((destructor)) static void tell(void)
 """
 
 
-def build(folder):
+@dataclass(frozen=True)
+class Left:
+    """What a call leaves. Two of them are alike whatever the number of their allocations."""
+
+    status: int
+    out: bytes
+    err: bytes
+    recording: bytes | None
+    report: bytes | None
+    allocations: int = field(compare=False)
+
+
+def build(folder: Path) -> Path:
+    """The shim, built."""
     source, shim = folder / "shim.c", folder / "shim.so"
     source.write_text(SHIM)
     subprocess.run(["cc", "-shared", "-fPIC", "-O1", "-o", shim, source, "-ldl"], check=True)
     return shim
 
 
-def call(program, shim, number, folder):
-    """One call in a folder of its own, with this allocation refused; 0 refuses none."""
-    for file in (ROW / "files").iterdir():
-        (folder / file.name).write_bytes(file.read_bytes())
-    words = (ROW / "words").read_text().split("\n")[:-1]
-    environment = {"LD_PRELOAD": str(shim), "REFUSE": str(number), "REFUSED_COUNT": str(folder / "count")}
-    run = subprocess.run([program, *words], cwd=folder, env=environment, stdin=subprocess.DEVNULL, capture_output=True, timeout=60)
-    stored = {name: (folder / name).read_bytes() if (folder / name).is_file() else None for name in ("k", "r")}
-    count = (folder / "count").read_text() if (folder / "count").is_file() else "0"
-    return run.returncode, run.stdout, run.stderr, stored["k"], stored["r"], int(count)
+def stored(file: Path) -> bytes | None:
+    """What is stored in a file, if it is there."""
+    return file.read_bytes() if file.is_file() else None
 
 
-def is_part(left, whole):
+@dataclass(frozen=True)
+class Calls:
+    """Calls of a program under the shim, each in a folder of its own in this one."""
+
+    program: Path
+    shim: Path
+    folder: Path
+
+    def call(self, number: int) -> Left:
+        """One call, with this allocation refused; 0 refuses none."""
+        folder = self.folder / str(number)
+        folder.mkdir()
+        for file in (ROW / "files").iterdir():
+            (folder / file.name).write_bytes(file.read_bytes())
+        command: list[Word] = [self.program, *(ROW / "words").read_text().split("\n")[:-1]]
+        names = {"LD_PRELOAD": str(self.shim), "REFUSE": str(number), "REFUSED_COUNT": str(folder / "count")}
+        run = subprocess.run(command, cwd=folder, env=names, stdin=subprocess.DEVNULL, capture_output=True, timeout=60)
+        count = int(stored(folder / "count") or 0)
+        return Left(run.returncode, run.stdout, run.stderr, stored(folder / "k"), stored(folder / "r"), count)
+
+
+def is_part(left: Left, whole: Left) -> bool:
     """Status 10, and a first part of what a call without a failure leaves, in the order in which it leaves it."""
-    status, out, err, recording, report, _ = left
-    _, whole_out, whole_err, whole_recording, whole_report, _ = whole
-    text = b"aprof: out of memory\n"
-    came = err.removesuffix(text)
+    came = left.err.removesuffix(b"aprof: out of memory\n")
     return (
-        status == 10
-        and whole_out.startswith(out)
-        and (came in (b"", whole_err))
-        and recording in (None, whole_recording)
-        and report in (None, whole_report)
-        and (recording is None or out == whole_out)
-        and (report is None or recording is not None)
-        and (came == b"" or report is not None)
+        left.status == 10
+        and whole.out.startswith(left.out)
+        and came in (b"", whole.err)
+        and left.recording in (None, whole.recording)
+        and left.report in (None, whole.report)
+        and (left.recording is None or left.out == whole.out)
+        and (left.report is None or left.recording is not None)
+        and (came == b"" or left.report is not None)
     )
 
 
-def main():
-    program = str(pathlib.Path(sys.argv[1]).resolve())
-    first, step = (int(word) for word in (sys.argv[2:] + ["1", "1"][len(sys.argv) - 2 :])[:2])
-    with tempfile.TemporaryDirectory() as base:
-        base = pathlib.Path(base)
-        shim = build(base)
-        (base / "whole").mkdir()
-        whole = call(program, shim, 0, base / "whole")
-        print(f"{whole[5]} allocations, status {whole[0]}")
-        same = parts = wrong = 0
-        for number in range(first, whole[5] + 1, step):
-            folder = base / str(number)
-            folder.mkdir()
-            left = call(program, shim, number, folder)
-            if left[:5] == whole[:5]:
-                same += 1
-            elif is_part(left, whole):
-                parts += 1
-            else:
-                wrong += 1
-                print(f"allocation {number}: {left}")
-        print(f"{same} as without, {parts} out of memory, {wrong} wrong")
-        sys.exit(1 if wrong else 0)
+def refuse(calls: Calls, first: int, step: int) -> int:
+    """Refuses each of these allocations, tells of it, and returns how many calls were wrong."""
+    whole = calls.call(0)
+    print(f"{whole.allocations} allocations, status {whole.status}")
+    found: Counter[str] = Counter()
+    for number in range(first, whole.allocations + 1, step):
+        left = calls.call(number)
+        kind = "same" if left == whole else "part" if is_part(left, whole) else "wrong"
+        found[kind] += 1
+        if kind == "wrong":
+            print(f"allocation {number}: {left}")
+    print(f"{found['same']} as without, {found['part']} out of memory, {found['wrong']} wrong")
+    return found["wrong"]
 
 
-main()
+def options_of() -> argparse.Namespace:
+    """The words of the command line."""
+    parser = host.parser(__doc__)
+    parser.add_argument("program", metavar="PROGRAM", type=host.program, help="the built aprof")
+    parser.add_argument("first", metavar="FIRST", nargs="?", type=int, default=1, help="the first refused; 1 unless given")
+    parser.add_argument("step", metavar="STEP", nargs="?", type=int, default=1, help="from one to the next; 1 unless given")
+    return parser.parse_args()
+
+
+def main() -> int:
+    """The status is 1 where a call was wrong."""
+    options = options_of()
+    with tempfile.TemporaryDirectory() as made:
+        folder = Path(made)
+        calls = Calls(options.program, build(folder), folder)
+        return 1 if refuse(calls, options.first, options.step) else 0
+
+
+if __name__ == "__main__":
+    sys.exit(main())

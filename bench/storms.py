@@ -4,19 +4,15 @@ callgrind, as the difference of two lengths of run, beside a plain instruction; 
 pages. bench/storms.py --long [PROGRAM] times a million open calls with as many returns, matched and not."""
 from __future__ import annotations
 
-import pathlib
-import re
-import subprocess
-import sys
+import argparse
 import tempfile
-import time
 from collections.abc import Callable, Sequence
+from dataclasses import dataclass
+from pathlib import Path
 
+import host
 from guests import BEQ, BNE, EXIT, RETURN, STACK, Code, add, addi, image, jalr, lw, number, slli, sw, syscall
-
-TOP = pathlib.Path(__file__).resolve().parent.parent
-WORDS = [word for word in sys.argv[1:] if word != "--long"]
-PROGRAM = WORDS[0] if WORDS else str(TOP / "crates/aprof/out/aprof")
+from host import Bench, Cost
 
 NR_YIELD, NR_EXIT, NR_CLONE, NR_MUNMAP, NR_MMAP, NR_READV, NR_SLEEP = 124, 93, 220, 215, 222, 65, 407
 THREAD = 0x10900
@@ -119,7 +115,8 @@ def sleeping(rounds: int) -> list[int]:
 
 def mmap(size: int) -> list[int]:
     """The kernel's call that maps `size` bytes anywhere."""
-    return [addi(10, 0, 0), *number(11, size), addi(12, 0, 3), addi(13, 0, 0x22), addi(14, 0, -1), addi(15, 0, 0), *syscall(NR_MMAP)]
+    arguments = [addi(10, 0, 0), *number(11, size), addi(12, 0, 3), addi(13, 0, 0x22), addi(14, 0, -1), addi(15, 0, 0)]
+    return arguments + syscall(NR_MMAP)
 
 
 def mapping(rounds: int) -> list[int]:
@@ -189,89 +186,80 @@ def scattering(rounds: int) -> list[int]:
     return code.finish()
 
 
-STORMS: list[tuple[str, Callable[[int], list[int]], int, int]] = [
-    ("a loop, to compare", plain, 10_000, 0),
-    ("returns of open calls", matched, 5_000, 0),
-    ("returns that match no open call", unmatched, 5_000, 0),
-    ("threads that begin and end", cloning, 500, 0),
-    ("32 threads that sleep to the same times", sleeping, 50, 0),
-    ("a page mapped and unmapped", mapping, 500, 0),
-    ("the same behind 13000 mapped pages", mapping_behind, 50, 0),
-    ("more mapped than there may be", overmapping, 500, 0),
-    ("327680 free pages unmapped", unmapping, 50, 0),
-    ("the next instruction written anew", rewriting, 5_000, 0),
-    ("reads of 1024 parts of a byte", scattering, 20, 1024),
+@dataclass(frozen=True)
+class Storm:
+    """A guest by its rounds, the lesser of the two numbers of rounds, and the bytes that a round moves."""
+
+    name: str
+    make: Callable[[int], list[int]]
+    rounds: int
+    moved: int = 0
+
+
+STORMS = [
+    Storm("a loop, to compare", plain, 10_000),
+    Storm("returns of open calls", matched, 5_000),
+    Storm("returns that match no open call", unmatched, 5_000),
+    Storm("threads that begin and end", cloning, 500),
+    Storm("32 threads that sleep to the same times", sleeping, 50),
+    Storm("a page mapped and unmapped", mapping, 500),
+    Storm("the same behind 13000 mapped pages", mapping_behind, 50),
+    Storm("more mapped than there may be", overmapping, 500),
+    Storm("327680 free pages unmapped", unmapping, 50),
+    Storm("the next instruction written anew", rewriting, 5_000),
+    Storm("reads of 1024 parts of a byte", scattering, 20, 1024),
 ]
-"""Name, guest, the lesser of the two numbers of rounds, and the bytes that a round moves."""
 TICKS = [(depth, pages) for pages in (1, 64, 1024) for depth in (10, 40, 60, 84)]
 """Open calls with the routine's, and pages."""
 
 
-class Bench:
-    """Runs guests in a folder of its own."""
-
-    def __init__(self, folder: str) -> None:
-        self.folder = pathlib.Path(folder)
-        (self.folder / "stdin").write_bytes(bytes(1 << 20))
-
-    def words(self, code: list[int], options: Sequence[str]) -> list[str]:
-        (self.folder / "guest").write_bytes(image(code))
-        files = [str(self.folder / name) for name in ("stdin", "report", "guest")]
-        return [PROGRAM, "run", *options, "--stdin", files[0], "-o", *files[1:]]
-
-    def steps(self) -> int:
-        """The steps that the last report tells."""
-        lines = (self.folder / "report").read_text().splitlines()
-        if lines[1] != "end exit 0":
-            raise SystemExit(f"storms.py: a guest ended with: {lines[1]}")
-        return int(lines[2].split()[1])
-
-    def host(self, code: list[int], options: Sequence[str]) -> tuple[int, int]:
-        """The steps of a run and the host's instructions."""
-        command = ["valgrind", "--tool=callgrind", "--callgrind-out-file=/dev/null", *self.words(code, options)]
-        said = subprocess.run(command, check=True, stdout=subprocess.DEVNULL, stderr=subprocess.PIPE, text=True).stderr
-        found = re.search(r"Collected : (\d+)", said)
-        assert found, said
-        return self.steps(), int(found[1])
-
-    def more(self, make: Callable[[int], list[int]], rounds: int, options: Sequence[str] = ()) -> tuple[int, int]:
-        """What twice as many rounds have more: steps and the host's instructions."""
-        (few, less), (many, most) = (self.host(make(n), options) for n in (rounds, 2 * rounds))
-        return many - few, most - less
-
-    def seconds(self, code: list[int]) -> float:
-        began = time.monotonic()
-        subprocess.run(self.words(code, ()), check=True, stdout=subprocess.DEVNULL)
-        return time.monotonic() - began
+def more(bench: Bench, make: Callable[[int], list[int]], rounds: int, options: Sequence[str] = ()) -> Cost:
+    """What twice as many rounds cost more."""
+    few, many = (bench.cost(image(make(n)), options) for n in (rounds, 2 * rounds))
+    return many.beyond(few)
 
 
 def storms(bench: Bench) -> None:
+    """Prints the cost of each guest."""
     print("| Guest | Host instructions a step | to a plain one | a byte |\n|---|---|---|---|")
     plain_one = 0.0
-    for name, make, rounds, moved in STORMS:
-        steps, host = bench.more(make, rounds)
-        plain_one = plain_one or host / steps
-        by_byte = f"{host / (rounds * moved):.0f}" if moved else ""
-        print(f"| {name} | {host / steps:.0f} | {host / steps / plain_one:.1f} | {by_byte} |", flush=True)
+    for storm in STORMS:
+        cost = more(bench, storm.make, storm.rounds)
+        plain_one = plain_one or cost.a_step
+        by_byte = f"{cost.host / (storm.rounds * storm.moved):.0f}" if storm.moved else ""
+        print(f"| {storm.name} | {cost.a_step:.0f} | {cost.a_step / plain_one:.1f} | {by_byte} |", flush=True)
 
 
 def ticks(bench: Bench) -> None:
+    """Prints the cost of a tick of 8 bits."""
     rounds = 300
     print("\n| Open calls | Pages | Host instructions a tick |\n|---|---|---|")
     for depth, pages in TICKS:
-        _, host = bench.more(lambda n: ticking(n, depth, pages), rounds, ["--stamps", "8"])
-        print(f"| {depth} | {pages} | {host / rounds:.0f} |", flush=True)
+        cost = more(bench, lambda n: ticking(n, depth, pages), rounds, ["--stamps", "8"])
+        print(f"| {depth} | {pages} | {cost.host / rounds:.0f} |", flush=True)
 
 
 def long_runs(bench: Bench) -> None:
+    """Prints the time of a million open calls and their returns."""
     for name, make in (("matched", matched), ("unmatched", unmatched)):
-        print(f"a million open calls and as many {name} returns: {bench.seconds(make(1_000_000)):.2f} s", flush=True)
+        seconds = bench.seconds(image(make(1_000_000)))
+        print(f"a million open calls and as many {name} returns: {seconds:.2f} s", flush=True)
+
+
+def options_of() -> argparse.Namespace:
+    """The words of the command line."""
+    parser = host.parser(__doc__)
+    parser.add_argument("--long", action="store_true", help="time a million open calls and their returns")
+    host.add_program(parser)
+    return parser.parse_args()
 
 
 def main() -> None:
+    """Prints the tables."""
+    options = options_of()
     with tempfile.TemporaryDirectory() as folder:
-        bench = Bench(folder)
-        if "--long" in sys.argv:
+        bench = Bench(options.program, Path(folder))
+        if options.long:
             long_runs(bench)
         else:
             storms(bench)

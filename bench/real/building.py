@@ -26,7 +26,8 @@ for package; do
     rm -rf "$folder/$package"
 done
 """
-"""apt works in a folder and with a list of its own, as for the C library. It checks what it loads; the unpacking need not again."""
+"""apt works in a folder and with a list of its own, as for the C library. It checks what it loads; the unpacking need not
+again."""
 
 
 class LeftOut(Exception):
@@ -64,8 +65,8 @@ def last_line(log: Path) -> str:
 
 
 def build(recipe: Recipe, sources: Path, guests: Path) -> Path:
-    """The guest of a recipe, built unless this very line has built it before. It is built in a copy of the source, so that an
-    earlier build leaves nothing in it."""
+    """The guest of a recipe, built unless this very line has built it before. It is built in a copy of the source, so that
+    an earlier build leaves nothing in it."""
     source = sources / recipe.package / "source"
     guest = guests / recipe.name.split()[0]
     said = guest.with_suffix(".made")

@@ -1,12 +1,12 @@
-"""bench/real.py [--only NAME ...] [--sizes 1,10,100] [--program PATH] [--folder PATH] [--no-host]: builds C programs that no one
-here wrote from Debian's source packages, profiles each at some sizes of input, and prints a Markdown table. A program that can't
-be fetched, built or run is left out with a line that says why.
+"""bench/real.py [--only NAME ...] [--sizes 1,10,100] [--program PATH] [--folder PATH] [--no-host]: builds C programs that no
+one here wrote from Debian's source packages, profiles each at some sizes of input, and prints a Markdown table. A program
+that can't be fetched, built or run is left out with a line that says why.
 
 Steps are the guest's instructions. Seconds are the processor's, of `aprof run` at the greatest size; beside it stand its
-nanoseconds a step, most memory, and points. Host instructions a step are counted by callgrind, as the difference of the two least
-sizes. Contexts are those of `aprof contexts` at the middle size. The routine is the one that `show` names first for the reports
-of all sizes together, with its growth and its part of all instructions with what it calls. Refused are the calls of the kernel
-that the guest made at the least size and that answer ENOSYS, see real/refused.py."""
+nanoseconds a step, most memory, and points. Host instructions a step are counted by callgrind, as the difference of the two
+least sizes. Contexts are those of `aprof contexts` at the middle size. The routine is the one that `show` names first for
+the reports of all sizes together, with its growth and its part of all instructions with what it calls. Refused are the calls
+of the kernel that the guest made at the least size and that answer ENOSYS, see real/refused.py."""
 from __future__ import annotations
 
 import argparse
@@ -19,8 +19,8 @@ from real import building, refused
 from real.measuring import Bench, Run, first_routine
 from real.recipes import RECIPES, Recipe
 
-HEADING = ("Program", "Million steps at {sizes}", "Seconds", "ns a step", "Host instructions a step", "MiB", "Points", "Contexts",
-           "First in `show`", "Refused")
+HEADING = ("Program", "Million steps at {sizes}", "Seconds", "ns a step", "Host instructions a step", "MiB", "Points",
+           "Contexts", "First in `show`", "Refused")
 
 
 def millions(steps: int) -> str:

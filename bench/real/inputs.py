@@ -1,4 +1,4 @@
-"""The inputs of the programs, made by a formula from a fixed seed: the same bytes on each machine. Each maker takes the scale."""
+"""The inputs of the programs, made by a formula from a fixed seed: the same on each machine. Each maker takes the scale."""
 from __future__ import annotations
 
 from collections.abc import Iterator
@@ -8,7 +8,7 @@ SYLLABLES = ("ba", "ce", "di", "fo", "gu", "ha", "le", "mi", "no", "pu", "ra", "
 
 
 def numbers(below: int, seed: int = SEED) -> Iterator[int]:
-    """Numbers below a bound without end, by the linear congruence of the C standard's example, of which the high bits are taken."""
+    """Numbers below a bound without end: the high bits of the linear congruence of the C standard's example."""
     state = seed
     while True:
         state = (state * 1103515245 + 12345) % 2**31
@@ -53,19 +53,20 @@ def people(scale: int) -> bytes:
     found = []
     for k, name in enumerate(words(10 * scale)):
         tags = ", ".join(f'"{SYLLABLES[next(draw) % 16]}"' for _ in range(4))
-        found.append(f'  "{name}{k}": {{"age": {next(draw) % 90}, "height": 1.{next(draw):03}, "tags": [{tags}], "none": null}}')
+        age, height = next(draw) % 90, next(draw)
+        found.append(f'  "{name}{k}": {{"age": {age}, "height": 1.{height:03}, "tags": [{tags}], "none": null}}')
     return ("{\n" + ",\n".join(found) + "\n}\n").encode()
 
 
 def document(scale: int) -> bytes:
-    """An XML document of 60 paragraphs times the scale, each inside the one before it, with attributes, comments and entities."""
+    """An XML document of 60 paragraphs times the scale, each inside the one before, with attributes, comments, entities."""
     count = 60 * scale
     opened = [f'<part n="{k}" name="{line[:20]}"><!-- {line} -->{line} &amp; &#65;' for k, line in enumerate(lines(count))]
     return ('<?xml version="1.0"?>\n' + "\n".join(opened) + "\n" + "</part>" * count + "\n").encode()
 
 
 def statements(scale: int) -> bytes:
-    """SQL that fills a table of 6 rows times the scale, indexes one column, groups, and joins the table to itself by another."""
+    """SQL that fills a table of 6 rows times the scale, indexes a column, groups, and joins the table to itself."""
     draw = numbers(1000)
     rows = [f"INSERT INTO t VALUES ({k}, '{word}', {next(draw)});" for k, word in enumerate(words(6 * scale))]
     queries = [

@@ -1,15 +1,14 @@
 """Runs aprof on a guest: steps, seconds, memory, the host's instructions, and what the reports hold."""
 from __future__ import annotations
 
-import os
-import re
 import subprocess
 import sys
-import time
 from collections.abc import Sequence
 from dataclasses import dataclass
 from pathlib import Path
 
+import host
+from host import Word
 from real.building import TOP, LeftOut
 from real.recipes import Recipe
 
@@ -35,33 +34,14 @@ class Run:
 
 
 def read_report(text: str) -> Report:
-    """Counts the points and the contexts of a report: the lines that begin with a number are points of routines, as far as the
-    first context."""
+    """Counts the points and the contexts of a report: the lines that begin with a number are points of routines, as far as
+    the first context."""
     lines = text.splitlines()
     told = dict(line.split(" ", 1) for line in lines[1:4] if " " in line)
     contexts = sum(line.startswith("context ") for line in lines)
     routines = lines[: next((k for k, line in enumerate(lines) if line.startswith("context ")), len(lines))]
     points = sum(line[:1].isdigit() for line in routines)
     return Report(told["end"], int(told["steps"]), points, contexts)
-
-
-def watch(command: Sequence[str | Path], folder: Path) -> tuple[int, float, float]:
-    """The status of a command, its processor's seconds, and its most memory in MiB, looked at all the while: the kernel's own
-    figure at the end would count the memory of this script, from before the command took its place."""
-    with (folder / "said").open("wb") as said:
-        child = subprocess.Popen(command, cwd=folder, stdout=subprocess.DEVNULL, stderr=said)
-    most = 0
-    while True:
-        pid, status, usage = os.wait4(child.pid, os.WNOHANG)
-        if pid:
-            child.returncode = os.waitstatus_to_exitcode(status)
-            return child.returncode, usage.ru_utime + usage.ru_stime, most / 1024
-        try:
-            found = re.search(r"VmHWM:\s+(\d+)", Path(f"/proc/{child.pid}/status").read_text())
-        except OSError:
-            found = None
-        most = max(most, int(found[1])) if found else most
-        time.sleep(0.005)
 
 
 class Bench:
@@ -73,7 +53,7 @@ class Bench:
         folder.mkdir(parents=True, exist_ok=True)
 
     def words(self, command: str, scale: int, report: str,
-              image: Path | None = None, behind: Sequence[str] = ()) -> list[str | Path]:
+              image: Path | None = None, behind: Sequence[str] = ()) -> list[Word]:
         """The command line of a run, of the recipe's guest and words unless others are given."""
         name = f"in-{scale}"
         if name not in self.made:
@@ -88,24 +68,22 @@ class Bench:
         """Profiles the guest; it must end with the status that its recipe tells."""
         path = self.folder / f"{command}-{scale}"
         path.unlink(missing_ok=True)
-        status, seconds, memory = watch(self.words(command, scale, path.name), self.folder)
-        if status or not path.exists():
+        with (self.folder / "said").open("wb") as log:
+            ended = host.run(self.words(command, scale, path.name), folder=self.folder, stderr=log, every=0.005)
+        if ended.status or not path.exists():
             said = (self.folder / "said").read_text(errors="replace").strip().splitlines()
-            raise LeftOut(f"aprof {command} at {scale} ended with {status}: {said[-1] if said else 'it said nothing'}")
+            raise LeftOut(f"aprof {command} at {scale} ended with {ended.status}: {said[-1] if said else 'it said nothing'}")
         report = read_report(path.read_text())
         if report.end != f"exit {self.recipe.status}":
             raise LeftOut(f"aprof {command} at {scale}: the guest ended with {report.end}")
-        return Run(report, path, seconds, memory)
+        return Run(report, path, ended.processor, ended.memory / 1024)
 
     def host(self, scale: int) -> int:
         """The host's instructions of a run, by callgrind."""
-        counting = ["valgrind", "--tool=callgrind", "--callgrind-out-file=/dev/null"]
-        command = [*counting, *self.words("run", scale, "counted")]
-        ran = subprocess.run(command, cwd=self.folder, stdout=subprocess.DEVNULL, stderr=subprocess.PIPE)
-        found = re.search(rb"Collected : (\d+)", ran.stderr)
-        if not found:
-            raise LeftOut(f"valgrind on aprof run at {scale} counted nothing")
-        return int(found[1])
+        try:
+            return host.instructions(self.words("run", scale, "counted"), self.folder, check=False)
+        except host.NotCounted:
+            raise LeftOut(f"valgrind on aprof run at {scale} counted nothing") from None
 
 
 def first_routine(paths: Sequence[Path]) -> str:

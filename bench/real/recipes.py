@@ -11,9 +11,10 @@ CONFIGURE = "./configure CC=$CC AR=llvm-ar RANLIB=llvm-ranlib"
 
 @dataclass(frozen=True)
 class Recipe:
-    """A program: its source package; the shell line that makes $GUEST in the folder of the source, by $CC, with our own files in
-    $DRIVERS; the maker of its input; and the words behind the executable, where `INPUT` stands for the input's file. Without that
-    word the input is the standard input. Of a run by the words `by_file` only the refused calls are looked for."""
+    """A program: its source package; the shell line that makes $GUEST in the folder of the source, by $CC, with our own
+    files in $DRIVERS; the maker of its input; and the words behind the executable, where `INPUT` stands for the input's
+    file. Without that word the input is the standard input. Of a run by the words `by_file` only the refused calls are
+    looked for."""
 
     name: str
     package: str
@@ -27,7 +28,7 @@ class Recipe:
 LUA_HEADER = """echo '#define DEB_HOST_MULTIARCH "riscv32-linux-musl"' > src/lua5.4-deb-multiarch.h"""
 EXPAT_HEADER = ("printf '#define %s\\n' 'XML_NS 1' 'XML_DTD 1' 'XML_CONTEXT_BYTES 1024' 'BYTEORDER 1234' XML_DEV_URANDOM "
                 "> expat/expat_config.h")
-EXPAT_FILES = "expat/lib/xmlparse.c expat/lib/xmlrole.c expat/lib/xmltok.c expat/xmlwf/{xmlwf,xmlfile,codepage,unixfilemap}.c"
+EXPAT_FILES = "expat/lib/{xmlparse,xmlrole,xmltok}.c expat/xmlwf/{xmlwf,xmlfile,codepage,unixfilemap}.c"
 AWK = ('{ for (k = 1; k <= NF; k++) count[$k]++; all = all substr($1, 1, 1); gsub(/[aeiou]/, "-"); dashes += length($0) } '
        'END { for (word in count) if (count[word] > most) { most = count[word]; first = word } '
        'print NR, dashes, length(all), first, most }')
@@ -73,6 +74,7 @@ RECIPES = (
            "--disable-documentation && make libnettle.a && make -C tools nettle-hash && cp tools/nettle-hash $GUEST",
            inputs.text, ("=-a", "=sha256"), by_file=("=-a", "=sha256", "INPUT")),
     Recipe("tcc -E", "tcc",
-           "./configure --cpu=x86_64 --cc=clang && $CC -DONE_SOURCE=1 -DTCC_TARGET_X86_64 -DCONFIG_TCC_STATIC -o $GUEST tcc.c",
+           "./configure --cpu=x86_64 --cc=clang && "
+           "$CC -DONE_SOURCE=1 -DTCC_TARGET_X86_64 -DCONFIG_TCC_STATIC -o $GUEST tcc.c",
            inputs.source, ("=-E", "INPUT")),
 )

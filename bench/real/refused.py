@@ -1,8 +1,9 @@
-"""Which calls of the kernel answer ENOSYS in a run, found by the program itself: each `ecall` of the guest whose number the written
-kernel doesn't have is made an `ebreak`, and the run ends with fault 7 at the first that is reached; that one is noted and made an
-`ecall` again, and so on until the guest ends as before. A number is known where `li a7` stands before the `ecall`, or `li a0`
-before a call of the C library's `__syscall_cp`, through which its waiting calls go. How many others there are is told, if any;
-what is refused by another answer than ENOSYS, as a file that is opened for writing, is not looked at."""
+"""Which calls of the kernel answer ENOSYS in a run, found by the program itself: each `ecall` of the guest whose number the
+written kernel doesn't have is made an `ebreak`, and the run ends with fault 7 at the first that is reached; that one is
+noted and made an `ecall` again, and so on until the guest ends as before. A number is known where `li a7` stands before the
+`ecall`, or `li a0` before a call of the C library's `__syscall_cp`, through which its waiting calls go. How many others
+there are is told, if any; what is refused by another answer than ENOSYS, as a file that is opened for writing, is not looked
+at."""
 from __future__ import annotations
 
 import re
@@ -71,8 +72,8 @@ def target(code: list[int], at: int, address: int) -> int | None:
 
 
 def sites(image: bytes, waiting: set[int]) -> dict[int, tuple[int, int | None]]:
-    """By address, the offset in the file and the number, if it is known, of each call of the kernel; waiting are the addresses of
-    the routines that take it as their first argument."""
+    """By address, the offset in the file and the number, if it is known, of each call of the kernel; waiting are the
+    addresses of the routines that take it as their first argument."""
     found: dict[int, tuple[int, int | None]] = {}
     for address, offset, size in sections(image):
         code = list(struct.unpack_from(f"<{size // 4}I", image, offset))
@@ -102,7 +103,8 @@ class Probe:
         every = sites(bytes(self.image), waiting)
         # The one `ecall` of the waiting routines has the numbers of the calls that lead there.
         self.unknown = [number for _, number in every.values()].count(None) - bool(waiting)
-        self.asked = {at: (offset, number) for at, (offset, number) in every.items() if number is not None and number not in taken}
+        numbered = ((at, offset, number) for at, (offset, number) in every.items() if number is not None)
+        self.asked = {at: (offset, number) for at, offset, number in numbered if number not in taken}
         self.before = {offset: bytes(self.image[offset : offset + 4]) for offset, _ in self.asked.values()}
         for offset in self.before:
             self.put(offset, struct.pack("<I", EBREAK))
@@ -137,7 +139,8 @@ def told(numbers: set[int]) -> str:
 
 
 def calls(bench: Bench, scale: int) -> str:
-    """The names of the calls that answer ENOSYS in a run, and in one that reads its input as a file, if there is such a one."""
+    """The names of the calls that answer ENOSYS in a run, and in one that reads its input as a file, if there is such a
+    one."""
     expected = f"exit {bench.recipe.status}"
     probe = Probe(bench, scale)
     found, end = probe.numbers(bench.recipe.words)
