@@ -93,7 +93,7 @@ def measure(program: Path, name: str, file: bytes, command: Sequence[str] = RUN)
     with tempfile.TemporaryDirectory() as folder:
         guest, report = Path(folder, "img"), Path(folder, "r")
         guest.write_bytes(file)
-        ended = host.run([program, *command, "-o", report, guest], stderr=subprocess.DEVNULL)
+        ended = host.run([program, *command, "-o", report, guest], stderr=subprocess.DEVNULL, every=0.002)
         took = f"{ended.clock:.2f} s ({ended.processor:.2f} s of the processor), {ended.memory / 1024:.0f} MiB"
         print(f"{name}: {len(file)} bytes, status {ended.status}, {took}, {str(first_routine(report))[:60]}")
 
