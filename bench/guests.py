@@ -101,7 +101,7 @@ class Code:
         self.labels[name] = len(self.words)
 
     def put_late(self, label: str, size: int, make: Callable[[int], list[int]]) -> None:
-        """Leaves so many words free until the label is known."""
+        """Leaves `size` words free until the label is known."""
         self.late.append(Late(len(self.words), label, make))
         self.put(*[0] * size)
 
