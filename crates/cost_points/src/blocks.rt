@@ -110,39 +110,6 @@ pub(crate) fn find<T: Keyed>(blocks: &[Vec<T>], last: Place, key: u64) -> Result
     search(blocks, key)
 }
 
-// Whether the key stands anywhere; `last` is then its place. It stands apart, so that the code around a search that finds the
-// key at once is short.
-#[cold]
-#[inline(never)]
-fn reach_apart<T: Keyed>(blocks: &[Vec<T>], last: &mut Place, key: u64) -> bool
-    requires filled { IsFilled (map (λ b. b.items) blocks.now) }
-    requires rising { IsRising (map T.key_of (items_in blocks.now)) }
-    ensures reached { result ≡ true → IsPlaceOf T.key_of (map (λ b. b.items) blocks.now) key last.new.block last.new.at }
-    ensures nowhere { result ≡ false → (at : ℕ) → IsAt (map T.key_of (items_in blocks.now)) key at → ⊥ }
-{
-    match search(blocks, key) {
-        Ok(place) => {
-            *last = place;
-            true
-        }
-        Err(_) => false,
-    }
-}
-
-/// Whether the key stands anywhere; `last` is then its place. It is tried first.
-#[inline(always)]
-pub(crate) fn reach<T: Keyed>(blocks: &[Vec<T>], last: &mut Place, key: u64) -> bool
-    requires filled { IsFilled (map (λ b. b.items) blocks.now) }
-    requires rising { IsRising (map T.key_of (items_in blocks.now)) }
-    ensures reached { result ≡ true → IsPlaceOf T.key_of (map (λ b. b.items) blocks.now) key last.new.block last.new.at }
-    ensures nowhere { result ≡ false → (at : ℕ) → IsAt (map T.key_of (items_in blocks.now)) key at → ⊥ }
-{
-    if stands_at(blocks, *last, key) {
-        return true;
-    }
-    reach_apart(blocks, last, key)
-}
-
 // Cuts a block in two. A refusal changes no item.
 fn cut_block<T: Drop>(blocks: &mut Vec<Vec<T>>, b: usize) -> Result<(), AllocError>
     requires inside { b < length blocks.old.items }

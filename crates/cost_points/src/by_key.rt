@@ -126,21 +126,6 @@ impl<T: Keyed + Drop> ByKey<T> {
         }
     }
 
-    /// Where the key stands, or None. The place of the item that was changed last is tried first.
-    #[inline(always)]
-    pub fn reach(&mut self, key: u64) -> Option<Place>
-        requires { IsRising (map T.key_of (joined self.old)) }
-        ensures reached { IfSome result (λ p. IsPlaceOf T.key_of self.old key p.block p.at) }
-        ensures nowhere { IfNone result ((at : ℕ) → IsAt (map T.key_of (joined self.old)) key at → ⊥) }
-        ensures same { self.new ≡ self.old }
-    {
-        if blocks::reach(&self.blocks, &mut self.last, key) {
-            Some(self.last)
-        } else {
-            None
-        }
-    }
-
     /// One item more, at the place where its key would go, and where it stands then. A refusal changes no item.
     #[cold]
     #[inline(never)]

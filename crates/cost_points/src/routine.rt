@@ -63,20 +63,19 @@ impl RoutinePoints {
         self.points.add_one(ended)
     }
 
-    /// One more activation of the routine, where it has a point of that size, and true; else false, and nothing changes.
+    /// One more activation of the routine, if its point that was changed last has that size, and true; else false, and nothing
+    /// changes.
     #[tactic(auto, using(crate::proofs::Tallied::own_by_parts))]
     #[inline(always)]
-    pub fn add_known(&mut self, ended: &Done) -> bool
+    pub fn add_last(&mut self, ended: &Done) -> bool
         requires parts { HasParts ended.now }
         requires rising { IsRising (map (λ p. p.size) self.old.points) }
         requires room { All HasRoom self.old.points }
         ensures added { result ≡ true → self.new ≡ point_added (point_of_one ended.now) self.old }
         ensures same { result ≡ false → self.new ≡ self.old }
-        ensures known { (place : ℕ) → IsAt (map (λ p. p.size) self.old.points) ended.now.size place
-            → result ≡ true }
     {
         let own = ended.plain == ended.size; // the parts add up to the size
-        self.points.add_known_as(ended, own)
+        self.points.add_last(ended, own)
     }
 
     /// The points, by rising size.

@@ -52,10 +52,10 @@ pub(crate) fn add_one(
     }
 }
 
-/// One more activation, where its routine has a point of its size, and true; else false, and no routine changes. Mostly it is the
-/// routine that was changed last, whose code needs no search.
+/// One more activation, if it is of the routine that was changed last and its size is that routine's last one, and true; else
+/// false, and no routine changes.
 #[inline(always)]
-pub(crate) fn add_known(routines: &mut ByKey<RoutinePoints>, ended: &Done) -> bool
+pub(crate) fn add_last(routines: &mut ByKey<RoutinePoints>, ended: &Done) -> bool
     requires parts { HasParts ended.now }
     requires profile { IsProfile (joined routines.old) }
     requires room { All (λ r. All HasRoom r.points) (joined routines.old) }
@@ -63,41 +63,11 @@ pub(crate) fn add_known(routines: &mut ByKey<RoutinePoints>, ended: &Done) -> bo
         ≡ with_point ended.now.entry (point_of_one ended.now)
         (joined routines.old) }
     ensures same { result ≡ false → joined routines.new ≡ joined routines.old }
-    ensures known { (at place : ℕ) (r : Routine) → slice_get (joined routines.old) at ≡ Some r
-        → r.entry ≡ ended.now.entry → IsAt (map (λ p. p.size) r.points) ended.now.size place
-        → result ≡ true }
 {
     match routines.last_place(u64::from(ended.entry)) {
         Some(place) => {
             let routine = routines.at_mut(place);
-            routine.add_known(ended)
-        }
-        None => {
-            let copy = *ended; // made here, so that the compiler has it in memory only where it is searched
-            add_known_apart(routines, &copy)
-        }
-    }
-}
-
-// The same, where the routine is to be searched.
-#[cold]
-#[inline(never)]
-fn add_known_apart(routines: &mut ByKey<RoutinePoints>, ended: &Done) -> bool
-    requires parts { HasParts ended.now }
-    requires profile { IsProfile (joined routines.old) }
-    requires room { All (λ r. All HasRoom r.points) (joined routines.old) }
-    ensures added { result ≡ true → joined routines.new
-        ≡ with_point ended.now.entry (point_of_one ended.now)
-        (joined routines.old) }
-    ensures same { result ≡ false → joined routines.new ≡ joined routines.old }
-    ensures known { (at place : ℕ) (r : Routine) → slice_get (joined routines.old) at ≡ Some r
-        → r.entry ≡ ended.now.entry → IsAt (map (λ p. p.size) r.points) ended.now.size place
-        → result ≡ true }
-{
-    match routines.reach(u64::from(ended.entry)) {
-        Some(place) => {
-            let routine = routines.at_mut(place);
-            routine.add_known(ended)
+            routine.add_last(ended)
         }
         None => false,
     }

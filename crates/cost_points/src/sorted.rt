@@ -12,7 +12,7 @@ ghost use Rattle.cost_points.specs.Private.Tallies.{is_own};
 
 use crate::Point;
 use crate::blocks::{self, Keyed, Place};
-use crate::tally::{self, Tally};
+use crate::tally::Tally;
 use std::alloc::{AllocError, Global};
 use std::marker::Model;
 use trace_model::Done;
@@ -125,10 +125,10 @@ fn add_one(points: &mut Vec<Vec<Tally>>, last: &mut Place, ended: &Done) -> Resu
     }
 }
 
-// One more activation among blocks of points, where they have one of its size, and true; else false. `own` is true only if the
-// activation has no part but its size.
+// One more activation among blocks of points, if the point at the place has its size, and true; else false, and nothing changes.
+// `own` is true only if the activation has no part but its size.
 #[inline(always)]
-fn add_known(points: &mut Vec<Vec<Tally>>, last: &mut Place, ended: &Done, own: bool) -> bool
+fn add_at(points: &mut Vec<Vec<Tally>>, place: Place, ended: &Done, own: bool) -> bool
     requires own { own ≡ true → is_own ended.now ≡ true }
     requires filled { IsFilled (map (λ b. b.items) points.old.items) }
     requires rising { IsRising (map (λ p. p.size) (items_in points.old.items)) }
@@ -137,12 +137,10 @@ fn add_known(points: &mut Vec<Vec<Tally>>, last: &mut Place, ended: &Done, own: 
         ≡ put_point (point_of_one ended.now) (items_in points.old.items) }
     ensures same { result ≡ false → items_in points.new.items ≡ items_in points.old.items }
     ensures filled { IsFilled (map (λ b. b.items) points.new.items) }
-    ensures known { (place : ℕ) → IsAt (map (λ p. p.size) (items_in points.old.items))
-        ended.now.size place → result ≡ true }
 {
-    if blocks::reach(points, last, ended.size) {
-        let block = &mut points[last.block];
-        let tally = &mut block[last.at];
+    if blocks::stands_at(points, place, ended.size) {
+        let block = &mut points[place.block];
+        let tally = &mut block[place.at];
         tally.take_in(ended, own);
         return true;
     }
@@ -208,29 +206,17 @@ impl SortedPoints {
         add_one(&mut self.points, &mut self.last, ended)
     }
 
-    /// One more activation, where there is a point of its size, and true; else false, and nothing changes.
+    /// One more activation, if the point that was changed last has its size, and true; else false, and nothing changes. `own` is
+    /// true only if the activation has no part but its size.
     #[inline(always)]
-    pub fn add_known(&mut self, ended: &Done) -> bool
-        requires rising { IsRising (map (λ p. p.size) self.old) }
-        requires room { All HasRoom self.old }
-        ensures added { result ≡ true → self.new ≡ put_point (point_of_one ended.now) self.old }
-        ensures same { result ≡ false → self.new ≡ self.old }
-        ensures known { (place : ℕ) → IsAt (map (λ p. p.size) self.old) ended.now.size place → result ≡ true }
-    {
-        self.add_known_as(ended, tally::is_own(ended))
-    }
-
-    /// The same, where the parts of the activation need not all be read: `own` is true only if it has none but its size.
-    #[inline(always)]
-    pub(crate) fn add_known_as(&mut self, ended: &Done, own: bool) -> bool
+    pub(crate) fn add_last(&mut self, ended: &Done, own: bool) -> bool
         requires own { own ≡ true → is_own ended.now ≡ true }
         requires rising { IsRising (map (λ p. p.size) self.old) }
         requires room { All HasRoom self.old }
         ensures added { result ≡ true → self.new ≡ put_point (point_of_one ended.now) self.old }
         ensures same { result ≡ false → self.new ≡ self.old }
-        ensures known { (place : ℕ) → IsAt (map (λ p. p.size) self.old) ended.now.size place → result ≡ true }
     {
-        add_known(&mut self.points, &mut self.last, ended, own)
+        add_at(&mut self.points, self.last, ended, own)
     }
 
     /// The points, by rising size.

@@ -93,10 +93,10 @@ impl Table {
         Ok(())
     }
 
-    /// One more activation, where its routine has a point of its size, which needs no memory, and true; else false, and nothing
-    /// changes.
+    /// One more activation, if it is of the routine that was changed last and its size is that routine's last one, and true; else
+    /// false, and nothing changes. It needs no search and no memory.
     #[inline(always)]
-    pub fn add_known(&mut self, ended: &Done) -> bool
+    pub fn add_last(&mut self, ended: &Done) -> bool
         requires few { self.old.members < 2 ^ 63 }
         requires parts { HasParts ended.now }
         ensures added { (added : List Done) → self.old ≡ contents_of added
@@ -105,12 +105,9 @@ impl Table {
             ≡ with_point ended.now.entry (point_of_one ended.now) self.old.routines }
         ensures members { result ≡ true → self.new.members ≡ self.old.members + 1 }
         ensures same { result ≡ false → self.new ≡ self.old }
-        ensures known { (at place : ℕ) (r : Routine) → slice_get self.old.routines at ≡ Some r
-            → r.entry ≡ ended.now.entry → IsAt (map (λ p. p.size) r.points) ended.now.size place
-            → result ≡ true }
     {
         let (_size, _cost) = (ended.size, ended.cost); // so that they are known to be of 64 bits
-        if routines::add_known(&mut self.routines, ended) {
+        if routines::add_last(&mut self.routines, ended) {
             self.members += 1;
             return true;
         }

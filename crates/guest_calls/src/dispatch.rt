@@ -75,9 +75,11 @@ pub fn syscall(
     let before = kernel.state.time();
     kernel.state.tick();
     let answer = carry_out(kernel, memory, held, tid, cpu, events);
-    if answer.is_err() {
-        kernel.state.set_time(before);
-    }
-    kernel.state.holds();
+    let after = if answer.is_ok() {
+        kernel.state.time()
+    } else {
+        before
+    };
+    kernel.state.set_time(after);
     answer
 }

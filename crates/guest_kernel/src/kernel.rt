@@ -32,10 +32,8 @@ impl Kernel {
         ensures started { IfOk result (λ kernel. kernel
             ≡ record { state = started inputs stdin.items first_break; outgoing = None }) }
     {
-        let state = State::new(alloc, inputs, stdin, first_break)?;
-        state.holds();
         Ok(Kernel {
-            state,
+            state: State::new(alloc, inputs, stdin, first_break)?,
             outgoing: Outgoing::new(alloc)?,
         })
     }
@@ -73,9 +71,7 @@ impl Kernel {
         ensures lives { IfSome result (λ woken. lives self.old.state woken.0 ≡ true) }
         ensures state { IsState self.new.state }
     {
-        let woken = self.state.wake_due();
-        self.state.holds();
-        woken
+        self.state.wake_due()
     }
 
     /// The channel and the bytes of the last system call, where it was a write of at least one byte.

@@ -56,7 +56,8 @@ impl State {
         stdin: Vec<u8>,
         first_break: Addr,
     ) -> Result<State, AllocError>
-        ensures { IfOk result (λ state. state ≡ started inputs stdin.items first_break) }
+        ensures started { IfOk result (λ state. state ≡ started inputs stdin.items first_break) }
+        ensures state { IfOk result IsState }
     {
         let mut threads = Vec::with_capacity(alloc, THREADS)?;
         threads.push(Thread {
@@ -120,13 +121,6 @@ impl State {
         self.program_break = at;
     }
 
-    /// What holds between system calls.
-    pub fn holds(&self)
-        ensures { IsState self.now }
-    {
-        let _ = &self.threads;
-    }
-
     /// The time goes on by a step.
     #[inline(always)]
     pub fn tick(&mut self)
@@ -145,7 +139,8 @@ impl State {
 
     /// The time is this one.
     pub fn set_time(&mut self, time: u64)
-        ensures { self.new ≡ record self.old { time = time } }
+        ensures time { self.new ≡ record self.old { time = time } }
+        ensures state { IsState self.new }
     {
         self.time = time;
     }

@@ -1,6 +1,7 @@
 //! Threads that the clock wakes.
 ghost use Rattle.std.specs.Prelude.{◌≡◌, true, IfSome};
 ghost use Rattle.std.specs.Option.{option_map};
+ghost use Rattle.guest_kernel.specs.Invariant.{IsState};
 ghost use Rattle.guest_kernel.specs.Kernel.{lives};
 ghost use Rattle.guest_kernel.specs.Waking.{moved_on, next_due, some_can_run, woken_by_time};
 ghost use Rattle.virtual_clock.specs.Order.{IsDue};
@@ -35,6 +36,7 @@ impl State {
         ensures first { IsDue self.old.deadlines (moved_on self.old).time result }
         ensures after { self.new ≡ woken_by_time self.old }
         ensures lives { IfSome result (λ woken. lives self.old woken.0 ≡ true) }
+        ensures state { IsState self.new }
     {
         self.move_on();
         let (tid, answer) = self.deadlines.due(self.time)?;

@@ -221,9 +221,10 @@ enum Paused {
         base: Reg,
         offset: i32,
     },
-    // The next instruction is not known to be in the page.
+    // The next instruction is not made here: it is not known to be in the page, or it is ECALL, EBREAK, an atomic operation or a
+    // branch that faults.
     Elsewhere,
-    // The next instruction is ECALL or faults.
+    // The next instruction is a load or a jump that faults.
     Stops,
     // Memory for an event of the last could not be allocated.
     OutOfMemory,
@@ -261,9 +262,9 @@ fn count_made(row: &mut StepRow, made: Made) -> Further
     }
 }
 
-// Makes the next step of a row, which is a load, apart from the loop.
+// Makes the next step of a row, which is a load of any kind.
 #[inline(always)]
-fn run_part<W: Observer>(
+fn run_any_load<W: Observer>(
     pc: &mut Cursor,
     cpu: &mut Cpu,
     memory: &GuestMemory,
@@ -301,7 +302,7 @@ fn run_part<W: Observer>(
     }
 }
 
-// Makes the next step of a row, which is a load: one of a word mostly in the loop itself.
+// Makes the next step of a row, which is a load. A load of a word is tried first without a call.
 #[inline(always)]
 fn run_load<W: Observer>(
     pc: &mut Cursor,
@@ -333,7 +334,9 @@ fn run_load<W: Observer>(
         Tried::Taken => Paused::Went,
         Tried::Refused => Paused::Refused,
         Tried::OutOfMemory => Paused::OutOfMemory,
-        Tried::Declined => run_part(pc, cpu, memory, tid, kind, rd, base, offset, row, observer),
+        Tried::Declined => run_any_load(
+            pc, cpu, memory, tid, kind, rd, base, offset, row, observer,
+        ),
     }
 }
 
@@ -417,7 +420,7 @@ fn run_decoded<W: Observer>(
             let target = add_offset(cpu.value(base), offset) / 2 * 2;
             run_jump(pc, cpu, memory, tid, rd, target, jump, row, observer)
         }
-        Decoded::Lb { rd, base, offset } => run_part(
+        Decoded::Lb { rd, base, offset } => run_any_load(
             pc,
             cpu,
             memory,
@@ -429,7 +432,7 @@ fn run_decoded<W: Observer>(
             row,
             observer,
         ),
-        Decoded::Lh { rd, base, offset } => run_part(
+        Decoded::Lh { rd, base, offset } => run_any_load(
             pc,
             cpu,
             memory,
@@ -453,7 +456,7 @@ fn run_decoded<W: Observer>(
             row,
             observer,
         ),
-        Decoded::Lbu { rd, base, offset } => run_part(
+        Decoded::Lbu { rd, base, offset } => run_any_load(
             pc,
             cpu,
             memory,
@@ -465,7 +468,7 @@ fn run_decoded<W: Observer>(
             row,
             observer,
         ),
-        Decoded::Lhu { rd, base, offset } => run_part(
+        Decoded::Lhu { rd, base, offset } => run_any_load(
             pc,
             cpu,
             memory,

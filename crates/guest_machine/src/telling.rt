@@ -154,7 +154,7 @@ pub(crate) fn tell_word_read<W: Observer>(
     observer.observe_word_read(tid, steps, first)
 }
 
-/// The same of words that were read, mostly one.
+/// Hands out `steps` steps of a thread, the last of which read these words, mostly one.
 #[inline(always)]
 pub(crate) fn observe_words_read<W: Observer>(
     observer: &mut W,
@@ -175,7 +175,7 @@ pub(crate) fn observe_words_read<W: Observer>(
     }
 }
 
-/// The same of words that were written.
+/// Hands out `steps` steps of a thread, the last of which wrote these words, mostly one.
 #[inline(always)]
 pub(crate) fn observe_words_written<W: Observer>(
     observer: &mut W,
@@ -215,7 +215,7 @@ fn observe_write<W: Observer>(
     observe_one(tid, steps, Event::Write { tid, first, count }, observer)
 }
 
-/// The same of a write.
+/// Hands out `steps` steps of a thread, the last of which wrote one word.
 #[inline(never)]
 pub(crate) fn tell_word_written<W: Observer>(
     observer: &mut W,
@@ -260,7 +260,7 @@ fn observe_both<W: Observer>(
     )
 }
 
-// The same of a call.
+// Hands out `steps` steps of a thread, the last of which is a call.
 #[inline(never)]
 fn tell_call<W: Observer>(observer: &mut W, tid: Tid, steps: u64, entry: Addr, back: Addr) -> Answer
     requires some { 1 ≤ steps }
@@ -273,7 +273,7 @@ fn tell_call<W: Observer>(observer: &mut W, tid: Tid, steps: u64, entry: Addr, b
     observer.observe_call(tid, steps, entry, back)
 }
 
-// The same of a return.
+// Hands out `steps` steps of a thread, the last of which is a return.
 #[inline(never)]
 fn tell_return<W: Observer>(observer: &mut W, tid: Tid, steps: u64, target: Addr) -> Answer
     requires some { 1 ≤ steps }

@@ -61,7 +61,7 @@ fn may_end(e: &Event) -> bool
     }
 }
 
-// Adds the activation that ended, where that needs no memory, and true; else false, and no point changes.
+// Adds the activation that ended, if its point is the one that was changed last, and true; else false, and no point changes.
 #[inline(always)]
 fn pass_ended(table: &mut Table, ends: &[Done]) -> bool
     requires few { table.old.members + length ends.now < 2 ^ 63 }
@@ -72,7 +72,7 @@ fn pass_ended(table: &mut Table, ends: &[Done]) -> bool
 {
     match ends.len() {
         0 => true,
-        1 => table.add_known(&ends[0]),
+        1 => table.add_last(&ends[0]),
         _ => false,
     }
 }
@@ -108,7 +108,7 @@ impl Keeper for Points {
 
     const PASSES: bool = true;
 
-    // An event that ends no activation changes no point. One that ends an activation mostly changes a point that is there.
+    // An event that ends no activation changes no point. One that ends an activation mostly changes the point that was changed last.
     #[inline(always)]
     fn pass(&mut self, e: &Event, ends: &[Done]) -> bool {
         if may_end(e) {

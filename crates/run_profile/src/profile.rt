@@ -1,8 +1,7 @@
 //! The profile of a run that goes on.
-ghost use Rattle.std.specs.Prelude.{◌≡◌, ◌≤◌, ◌∷◌, [], List, None, true, false, Ok, IfOk, IsOk, OnErr, OnOk};
+ghost use Rattle.std.specs.Prelude.{◌≡◌, ◌≤◌, ◌∷◌, [], List, None, true, false, length, Ok, IfOk, IsOk, OnErr, OnOk};
 ghost use Rattle.trace_model.specs.declared.event_kinds.Event.{Event};
 ghost use Rattle.trace_model.specs.declared.event_kinds.Event.TheVariants.{Call, Read, Ret, Write};
-ghost use Rattle.std.specs.Vec.{vec_capacity};
 ghost use Rattle.trace_model.specs.declared.observer.Observed.{Observed};
 ghost use Rattle.trace_model.specs.Depth.{is_within};
 ghost use Rattle.trace_model.specs.Observing.{MayStepBy, MayTake, MayTakeAfter, Observes, ObservesAfter, StandsAsBefore, StepsBy, result_of, with_steps};
@@ -61,24 +60,14 @@ fn steps_of(e: &Event) -> u64
     }
 }
 
-// The list gets one element, for which it has room.
-#[inline(never)]
-fn make_only(list: &mut Vec<Done>, one: Done)
-    requires { 1 ≤ vec_capacity list.old }
-    ensures { list.new.items ≡ one ∷ [] }
-{
-    list.clear();
-    list.push(one).unwrap();
-}
-
-// The same. The element is copied here, so that the compiler need not have it in memory where the list does not get it.
+// The one element of a list becomes another one. It is copied here, so that the compiler need not have it in memory where the list
+// does not get it.
 #[inline(always)]
 fn keep_only(list: &mut Vec<Done>, one: &Done)
-    requires { 1 ≤ vec_capacity list.old }
+    requires { length list.old.items ≡ 1 }
     ensures { list.new.items ≡ one.now ∷ [] }
 {
-    let copy = *one;
-    make_only(list, copy);
+    list[0] = *one;
 }
 
 impl<S: Lanes, K: Keeper> Profile<S, K> {
@@ -131,6 +120,16 @@ impl<S: Lanes, K: Keeper> Profile<S, K> {
             self.next = None;
         }
         Ok(())
+    }
+
+    // The same behind an event that was taken. If the keeper is out of memory now, it is asked again before the next event.
+    #[inline(never)]
+    fn hand_on(&mut self)
+        requires { IsOfFormed S.MAX K.holds self.old }
+        ensures { (past : List Event) → IsProfileOf S.MAX K.holds self.old past
+            → IsProfileOf S.MAX K.holds self.new past }
+    {
+        let _ = self.settle_next();
     }
 
     // The same before an event, and true; but false, with nothing handed on, where this event is too deep. Where the keeper
@@ -317,7 +316,7 @@ impl<S: Lanes, K: Keeper> Profile<S, K> {
         if self.next.is_some() {
             return self.return_apart(tid, count, target);
         }
-        if self.ended.capacity() < 1 {
+        if self.ended.len() != 1 {
             return self.return_apart(tid, count, target);
         }
         match self.profiler.return_after(tid, count, target) {
@@ -330,6 +329,7 @@ impl<S: Lanes, K: Keeper> Profile<S, K> {
                 }
                 keep_only(&mut self.ended, &ends[0]);
                 self.next = Some(e);
+                self.hand_on();
                 Answer::Taken
             }
             None => self.return_apart(tid, count, target),

@@ -40,7 +40,7 @@ pub record StepsTo (m : MachineState) (tid : ℕ) (c : ExecState) (events : List
 abbrev pub IsStepOf : ExecState → ExecState → ℕ → Advanced → Type 0
 IsStepOf old new tid advanced = (m : MachineState) → IsStateOf old tid m → StepsTo m tid new (Step tid ∷ done_by tid advanced)
 
--- The instruction jumps to the target and leaves the way back in rd; by the link registers it does this.
+-- The instruction jumps to the target, with its return address in rd. By its link registers it is a call, a return, both or neither.
 pub record JumpsTo (i : Instr) (r : Registers) (rd target : ℕ) (jump : JumpKind) : Type 0 where
   pub does : (tid : ℕ) (c : ExecState) → c.registers ≡ r → effect tid i c ≡ on_registers c (linked rd target c.registers)
   pub kind : kind_of i ≡ jump

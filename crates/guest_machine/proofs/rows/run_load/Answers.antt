@@ -28,8 +28,8 @@ returns-in-OutOfMemory-clause-runs g c = λ held.
     c.try_load.new.row (exec_state_of (with_pc c.try_load.new.pc c.try_load.new.cpu) c.args.memory.now held) c.try_load.new.observer
     (tried_answer c.try_load.result) (tried_answer Tried.OutOfMemory) (ap tried_answer c.in-OutOfMemory.is) (c.try_load.ensures.runs held)
 
-pub run_part-requires : goal.run_part-requires
-run_part-requires g c =
+pub run_any_load-requires : goal.run_any_load-requires
+run_any_load-requires g c =
     let held = c.requires.run.0 in
     let r = c.requires.run.1 in
     let still : c.try_load.new.row ≡ c.args.row.now = c.try_load.ensures.row ∙ ap (tried_row c.args.row.now) c.in-Declined.is in
@@ -60,6 +60,6 @@ returns-in-Declined-clause-runs g c = λ held.
     let on = runs_as g.W.Observer.stands fits tid c.args.row.now here old c.try_load.new.row there c.try_load.new.observer
     (tried_answer c.try_load.result) (Ok Taken) (ap tried_answer c.in-Declined.is) (c.try_load.ensures.runs held) in
     runs_then g.W.Observer.stands fits (g.W.Observer.fits c.try_load.new.observer) c.try_load.ensures.same tid c.args.row.now here old
-    c.try_load.new.row there c.try_load.new.observer on c.run_part.new.row
-    (exec_state_of (with_pc c.run_part.new.pc c.run_part.new.cpu) c.args.memory.now held) c.run_part.new.observer
-    (answer_of c.run_part.result) (answer_of c.run_part.result) refl (c.run_part.ensures.runs held)
+    c.try_load.new.row there c.try_load.new.observer on c.run_any_load.new.row
+    (exec_state_of (with_pc c.run_any_load.new.pc c.run_any_load.new.cpu) c.args.memory.now held) c.run_any_load.new.observer
+    (answer_of c.run_any_load.result) (answer_of c.run_any_load.result) refl (c.run_any_load.ensures.runs held)

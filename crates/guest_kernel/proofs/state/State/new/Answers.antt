@@ -13,3 +13,9 @@ invariant_of-result-2 c =
       room = omega (arith, room, first);
       state = started_is_state _ c.args.inputs c.args.stdin.items c.args.first_break (grind (arith, threads, waiting));
     }
+
+pub returns-clause-state : goal.returns-clause-state
+returns-clause-state c =
+    let threads = c.in_ok-push.ensures.items ∙ ap (λ (xs : List Thread). xs ++ record { tid = 1; clear_tid = 0 } ∷ []) c.in_ok-threads.ensures.items in
+    let waiting = c.in_ok-new.ensures.empty in
+    started_is_state _ c.args.inputs c.args.stdin.items c.args.first_break (grind (arith, threads, waiting))

@@ -12,3 +12,8 @@ invariant_of-self-2 c =
       room = c.self.invariant.room;
       state = due_is_state k _ c.self.inside.time c.in_ok-tid.tid c.self.invariant.state (ap₂ (λ (ws : List Waiter) (ds : List Deadline). record k { waiting = ws; deadlines = ds }) c.forget.ensures.after c.due.ensures.after);
     }
+
+pub returns-clause-state : goal.returns-clause-state
+returns-clause-state c =
+    let k = state_in c.self.inside in
+    due_is_state k _ c.self.inside.time c.in_ok-tid.tid c.self.invariant.state (ap₂ (λ (ws : List Waiter) (ds : List Deadline). record k { waiting = ws; deadlines = ds }) c.forget.ensures.after c.due.ensures.after)

@@ -30,6 +30,24 @@ returns-then-pass g c = record {
       );
 }
 
+pub hand_on-requires : goal.hand_on-requires
+hand_on-requires g c =
+    let may = c.requires.may in
+    let p = subst (λ (k : KeptRun g.row.K.Denot). IsProfileOf g.S.Stamp.MAX g.K.Keeper.holds k may.past) (sym c.self.view_is) may.now in
+    let none : c.self.inside.next ≡ None = not_some c.self.inside.next (sym c.is_some.ensures ∙ c.if-is_some.false) in
+    let own = settled_of g.S.Stamp.MAX g.K.Keeper.holds _ may.past p none in
+    let later = with_steps c.args.tid c.args.count may.past in
+    let new = c.return_after.new.self in
+    let ends = c.in-Some.ended ∷ [] in
+    let taken = c.in-Some.ensures.stands may.past p.stands in
+    record {
+      past = Ret c.args.tid c.args.target ∷ later;
+      now = waits_after g.S.Stamp.MAX g.K.Keeper.holds c.args.tid c.args.count _ may.past own (Ret c.args.tid c.args.target) refl new ends taken c.pass.new.self c.keep_only.new.list.items
+          c.keep_only.ensures
+          (c.if-pass.ensures.passes later (c.take_steps.ensures may.past own.kept) taken.recorded);
+      formed = may.formed;
+    }
+
 pub returns-else-pass : goal.returns-else-pass
 returns-else-pass g c = record {
   observed = λ past kept fitting.
@@ -39,12 +57,11 @@ returns-else-pass g c = record {
       let later = with_steps c.args.tid c.args.count past in
       let new = c.return_after.new.self in
       let ends = c.in-Some.ended ∷ [] in
-      let taken = c.in-Some.ensures.stands past p.stands in (
-        waits_after g.S.Stamp.MAX g.K.Keeper.holds c.args.tid c.args.count _ past own (Ret c.args.tid c.args.target) refl new ends taken c.pass.new.self c.keep_only.new.list.items
-            c.keep_only.ensures
-            (c.if-pass.ensures.passes later (c.take_steps.ensures past own.kept) taken.recorded),
-        taken.fits,
-      );
+      let taken = c.in-Some.ensures.stands past p.stands in
+      let waits = waits_after g.S.Stamp.MAX g.K.Keeper.holds c.args.tid c.args.count _ past own (Ret c.args.tid c.args.target) refl new ends taken c.pass.new.self c.keep_only.new.list.items
+      c.keep_only.ensures
+      (c.if-pass.ensures.passes later (c.take_steps.ensures past own.kept) taken.recorded) in
+      (c.hand_on.ensures (Ret c.args.tid c.args.target ∷ later) waits, taken.fits);
 }
 
 pub returns-in-None : goal.returns-in-None

@@ -6,7 +6,7 @@ use Rattle.guest_machine.specs.Private.Making.{Makes, MayMake}
 use Rattle.guest_machine.specs.Private.Rows.{further_of}
 use Rattle.guest_machine.proofs.MadeSteps.{counted, may_make}
 use Rattle.guest_machine.proofs.NextSteps.{runs_as}
-use Rattle.guest_machine.proofs.rows.run_part.Goals as goal
+use Rattle.guest_machine.proofs.rows.run_any_load.Goals as goal
 
 pub make_load-made-requires-clause-may : goal.make_load-made-requires-clause-may
 make_load-made-requires-clause-may g c =

@@ -7,16 +7,16 @@ use Rattle.cost_points.specs.Valid.{IsRoutine}
 use Rattle.cost_points.proofs.InBlocks.{item_in}
 use Rattle.cost_points.proofs.Indexed.{it_changes, it_is}
 use Rattle.cost_points.proofs.Merged.{new_routine}
-use Rattle.cost_points.proofs.routines.add_known.Goals as goal
+use Rattle.cost_points.proofs.routines.add_last.Goals as goal
 
-pub add_known-requires-clause-rising : goal.add_known-requires-clause-rising
-add_known-requires-clause-rising c =
+pub add_last-requires-clause-rising : goal.add_last-requires-clause-rising
+add_last-requires-clause-rising c =
     let place = c.in-Some.place in
     let found = c.at_mut-routine.ensures.found in
     (item_in (λ (r : Routine). r.entry) IsRoutine c.args.routines.now c.from.result place.block place.at c.at_mut-routine.result.now c.in-Some.ensures found c.requires.profile.each).sizes
 
-pub add_known-requires-clause-room : goal.add_known-requires-clause-room
-add_known-requires-clause-room c =
+pub add_last-requires-clause-room : goal.add_last-requires-clause-room
+add_last-requires-clause-room c =
     let place = c.in-Some.place in
     let found = c.at_mut-routine.ensures.found in
     item_in (λ (r : Routine). r.entry) (λ r. All HasRoom r.points) c.args.routines.now c.from.result place.block place.at c.at_mut-routine.result.now c.in-Some.ensures found c.requires.room
@@ -27,11 +27,4 @@ returns-in-Some-clause-added c = λ yes.
     let found = c.at_mut-routine.ensures.found in
     let p = point_of c.args.ended.now.size (c.args.ended.now ∷ []) in
     it_changes (λ (r : Routine). r.entry) c.args.routines.now c.from.result c.args.ended.now.entry c.from.ensures place.block place.at c.in-Some.ensures c.at_mut-routine.result.now found
-    (point_added p) (new_routine c.args.ended.now.entry p) c.add_known.new.self c.requires.profile.entries (c.add_known.ensures.added yes)
-
-pub returns-in-Some-clause-known : goal.returns-in-Some-clause-known
-returns-in-Some-clause-known c i at r there entry point =
-    let place = c.in-Some.place in
-    let found = c.at_mut-routine.ensures.found in
-    let same = it_is (λ (r : Routine). r.entry) c.args.routines.now c.from.result c.args.ended.now.entry c.from.ensures place.block place.at c.in-Some.ensures c.at_mut-routine.result.now found i r c.requires.profile.entries there entry in
-    c.add_known.ensures.known at (subst (λ (q : Routine). IsAt (map (λ p. p.size) q.points) c.args.ended.now.size at) (sym same) point)
+    (point_added p) (new_routine c.args.ended.now.entry p) c.add_last.new.self c.requires.profile.entries (c.add_last.ensures.added yes)
