@@ -36,7 +36,8 @@ class Log:
     def last_lines(self) -> list[str]:
         """The last lines on the first crate that was refused, or else of all."""
         refused = REFUSED.search(self.text)
-        return self.text[: refused.end() if refused else None].splitlines()[-LINES_TOLD:]
+        text = self.text[: refused.end()].rpartition(f"== {refused[1]}\n")[2] if refused else self.text
+        return text.splitlines()[-LINES_TOLD:]
 
 
 def jobs() -> str:

@@ -11,7 +11,7 @@ from aprof_launch.crates import Plan
 BYTES_A_SECOND = 240.0
 """Of code that one core proves, from which an estimate begins."""
 
-TRUST_SECONDS = 120.0
+TRUST_SECONDS = 300.0
 """How long that guess weighs, beside what is measured."""
 
 SECONDS_ON_TERMINAL, SECONDS_ELSEWHERE = 1.0, 25.0
