@@ -4,58 +4,35 @@ from __future__ import annotations
 import os
 import sys
 import time
-from collections.abc import Sequence
+from collections.abc import Set
 
 from aprof_launch.crates import Plan
 
 BYTES_A_SECOND = 240.0
-"""Of code that one core proves, from which an estimate begins; each crate that is done mends it."""
+"""Of code that one core proves, from which an estimate begins."""
 
-TRUST_SECONDS = 120.0
+TRUST_SECONDS = 300.0
 """How long that guess weighs, beside what is measured."""
 
-CHAIN_GAIN = 1.5
-"""How much faster the longest chain goes by several jobs a crate."""
-
-OVERRUN = 0.2
-"""How much longer a crate is thought to run that has run longer than its bytes told."""
-
-SECONDS_BETWEEN_LINES = 25.0
+SECONDS_ON_TERMINAL, SECONDS_ELSEWHERE = 1.0, 25.0
 ERASE = "\r\033[K"
 
 
 class Estimate:
-    """The time left: the work that is left over all cores, and not less than the longest chain."""
+    """The time left, where what is left goes as fast as what was proved."""
 
     def __init__(self, plan: Plan, cores: int) -> None:
-        self.plan, self.cores = plan, cores
-        self.done: set[str] = set()
-        self.weight, self.seconds = BYTES_A_SECOND * TRUST_SECONDS, TRUST_SECONDS
+        self.weights = {name: crate.weight for name, crate in plan.crates.items()}
+        self.guess, self.began = BYTES_A_SECOND * cores, time.monotonic()
 
-    def end(self, name: str, seconds: float) -> None:
-        """The crate took so many seconds of a core."""
-        self.done.add(name)
-        self.weight += self.plan.crates[name].weight
-        self.seconds += seconds
+    def left(self, proved: Set[str], kept: Set[str]) -> float:
+        """Seconds until the end. What an earlier build proved says nothing of the speed."""
+        seconds = time.monotonic() - self.began
+        speed = (self.guess * TRUST_SECONDS + self.weight(proved)) / (TRUST_SECONDS + seconds)
+        return self.weight(self.weights.keys() - proved - kept) / speed
 
-    def work(self, running: dict[str, float]) -> dict[str, float]:
-        """Seconds of a core for each crate that is left, where these have run for so long. One that has run longer than was
-        thought is thought to need a part of that time more."""
-        speed, crates = self.weight / self.seconds, self.plan.crates.items()
-        return {name: max(crate.weight / speed - running.get(name, 0.0), running.get(name, 0.0) * OVERRUN, 1.0)
-                for name, crate in crates if name not in self.done}
-
-    def chains(self, running: dict[str, float]) -> dict[str, float]:
-        """For each of them the seconds of the longest chain that begins with it and goes up."""
-        work, chains = self.work(running), dict[str, float]()
-        for name in reversed(work):
-            chains[name] = work[name] + max((chains.get(other.name, 0.0) for other in self.plan.above(name)), default=0.0)
-        return chains
-
-    def left(self, running: dict[str, float]) -> float:
-        """Seconds until the end."""
-        longest = max(self.chains(running).values(), default=0.0)
-        return max(sum(self.work(running).values()) / self.cores, longest / (CHAIN_GAIN if self.cores > 2 else 1.0))
+    def weight(self, names: Set[str]) -> int:
+        return sum(self.weights[name] for name in names)
 
 
 def duration(seconds: float) -> str:
@@ -65,32 +42,23 @@ def duration(seconds: float) -> str:
 
 
 class Teller:
-    """Says on standard error how far the build is: on a terminal in one line, else in a line each half minute at least."""
+    """Says on standard error how far the build is: on a terminal in one line, else in a line now and then."""
 
     def __init__(self, total: int) -> None:
         self.total, self.is_terminal = total, sys.stderr.isatty()
-        self.last = 0.0
+        elsewhere = float(os.environ.get("APROF_BUILD_SECONDS", SECONDS_ELSEWHERE))
+        self.seconds = SECONDS_ON_TERMINAL if self.is_terminal else elsewhere
 
     def say(self, text: str) -> None:
-        self.erase()
         print(f"aprof: {text}", file=sys.stderr, flush=True)
 
-    def erase(self) -> None:
-        if self.is_terminal and self.last:
-            sys.stderr.write(ERASE)
-
-    def tell(self, done: int, left: float, running: Sequence[str]) -> None:
-        """Tells of the crates, where it is time to."""
-        now = time.monotonic()
-        if now - self.last < (1.0 if self.is_terminal else line_seconds()):
-            return
+    def tell(self, done: int, left: float) -> None:
+        """Is called each `seconds`."""
         text = f"aprof: {done} of {self.total} crates, {duration(left)} left"
-        if running:
-            text += f" ({', '.join(running[:3])}{', ...' if len(running) > 3 else ''})"
-        sys.stderr.write(f"{ERASE}{text[:79]}" if self.is_terminal else f"{text}\n")
+        sys.stderr.write(f"{ERASE}{text}" if self.is_terminal else f"{text}\n")
         sys.stderr.flush()
-        self.last = now
 
-
-def line_seconds() -> float:
-    return float(os.environ.get("APROF_BUILD_SECONDS", SECONDS_BETWEEN_LINES))
+    def erase(self) -> None:
+        if self.is_terminal:
+            sys.stderr.write(ERASE)
+            sys.stderr.flush()

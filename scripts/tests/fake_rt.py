@@ -1,63 +1,85 @@
-"""In the place of `rt` in tests: it proves nothing, leaves what `rt` leaves, and notes when it was at which crate."""
-import fcntl
+"""In the place of `rt` in tests: it proves nothing, keeps what it was to prove, says and leaves what `rt ci` does, and notes what
+it found."""
+import hashlib
 import json
 import os
+import signal
+import subprocess
 import sys
-import time
 from pathlib import Path
 
 PROGRAM = "#!/bin/sh\necho built\n"
+TOP = Path.cwd()
 
 
 def note(**what: object) -> None:
     with open(os.environ["FAKE_LOG"], "a") as log:
-        log.write(json.dumps(what | {"at": time.monotonic()}) + "\n")
+        log.write(json.dumps(what) + "\n")
 
 
-def listed(top: Path) -> dict[str, list[str]]:
-    lines = (line.split("#")[0].partition(":") for line in (top / "crates.txt").read_text().splitlines())
-    return {name.strip(): words.split() for name, colon, words in lines if colon}
+def named(variable: str, crate: str) -> bool:
+    return crate in os.environ.get(variable, "").split()
 
 
-def below(name: str, crates: dict[str, list[str]]) -> set[str]:
-    deps = {dep for dep in crates[name] if dep in crates}
-    return deps.union(*(below(dep, crates) for dep in deps))
+def listed() -> dict[str, list[str]]:
+    lines = (line.partition(":") for line in (TOP / "crates.txt").read_text().splitlines())
+    return {name: words.split() for name, _, words in lines}
 
 
-def prove(folder: Path) -> None:
-    name, crates = folder.name, listed(folder.parents[1])
-    out = folder / "out"
-    fcntl.flock(os.open(folder, os.O_RDONLY), fcntl.LOCK_EX)
-    missing = sorted(dep for dep in below(name, crates) if not (folder.parent / dep / "out/rlib/stamp").is_file())
-    kept = (out / "incremental/work").is_file()
-    note(crate=name, event="begin", missing=missing, kept=kept, words=sys.argv[1:], crates=sorted(crates))
-    (out / "incremental").mkdir(parents=True, exist_ok=True)
-    (out / "incremental/work").write_text(name)
-    note(crate=name, event="kept")
-    print(f"rt: at {name}", flush=True)
-    if name in os.environ.get("FAKE_KILLED", "").split() and not kept:
-        os.kill(os.getpid(), 9)
-    if name in os.environ.get("FAKE_SLOW", name).split():
-        time.sleep(float(os.environ.get("FAKE_SECONDS", "0")))
-    if name in os.environ.get("FAKE_FAIL", "").split():
-        print(f"fn {name}::f: not proved")
-        sys.exit(1)
-    if name == "aprof":
-        (out / name).write_text(PROGRAM)
-        (out / name).chmod(0o755)
-        (out / f"{name}.stamp").write_text("stamp")
+def kept(name: str) -> Path:
+    """What stands in the store once the crate is proved."""
+    source = (TOP / "crates" / name / "src" / ("main.rt" if name == "aprof" else "lib.rt")).read_bytes()
+    return Path(os.environ["FAKE_LOG"]).with_name("kept") / f"{name}-{hashlib.sha256(source).hexdigest()}"
+
+
+def prove(name: str, deps: list[str], failed: list[str]) -> None:
+    lost = [dep for dep in deps if dep in failed]
+    if lost:
+        failed.append(name)
+        print(f"rt: {name} NOT PROVED: its library {lost[0]} failed", flush=True)
+    elif kept(name).exists():
+        print(f"rt: {name} is kept: an earlier run on this machine proved the same files over the same libraries", flush=True)
     else:
-        (out / f"rlib/{name}.rlib").mkdir(parents=True, exist_ok=True)
-        (out / f"rlib/{name}.rlib/format").write_text(name)
-        (out / "rlib/stamp").write_text((folder / "src/lib.rt").read_text())
-    note(crate=name, event="end")
+        note(event="begin", crate=name)
+        subprocess.run(["sleep", os.environ.get("FAKE_SECONDS", "0")])
+        is_refused = named("FAKE_FAIL", name)
+        print(f"== {name}\nfn {name}::f: {'not ' * is_refused}proved")
+        print(f"rt: {name} {'NOT PROVED' if is_refused else 'proved'}", flush=True)
+        if is_refused:
+            failed.append(name)
+        else:
+            kept(name).parent.mkdir(exist_ok=True)
+            kept(name).touch()
+        note(event="end", crate=name)
+
+
+def build(failed: list[str]) -> None:
+    if not failed:
+        for ending in ("", ".by-rattle"):
+            program = TOP / "crates/aprof/out" / f"aprof{ending}"
+            program.parent.mkdir(exist_ok=True)
+            program.write_text(PROGRAM)
+            program.chmod(0o755)
+    if named("FAKE_FAIL", "run"):
+        print("rt: aprof: the program ended with status 1, and not 0; it said: no")
+        failed.append("aprof (run)")
+
+
+def ci() -> int:
+    signal.signal(signal.SIGTSTP, lambda number, _frame: note(event="paused"))
+    signal.signal(signal.SIGCONT, lambda number, _frame: note(event="continued"))
+    files = sorted(str(path.relative_to(TOP)) for path in TOP.rglob("*") if not path.is_dir() or path.name == ".git")
+    note(event="ci", words=sys.argv[1:], files=files, jobs=os.environ.get("RT_JOBS"), session=os.getsid(0))
+    crates, failed = listed(), list[str]()
+    for name, words in crates.items():
+        prove(name, words, failed)
+    build(failed)
+    print(f"rt: FAILED: {' '.join(failed)}" if failed else "rt: ok; handles allowed: none")
+    print(f"{len(crates) - len(failed)} passed, {len(failed)} failed")
+    return 1 if failed else 0
 
 
 if sys.argv[1] == "version":
     print("fake kit")
-elif sys.argv[1] == "all":
-    for crate in listed(Path.cwd()):
-        prove(Path.cwd() / "crates" / crate)
-        print(f"== {crate}", flush=True)
 else:
-    prove(Path.cwd())
+    sys.exit(ci())
