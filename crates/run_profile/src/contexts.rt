@@ -68,17 +68,14 @@ impl Keeper for Contexts {
 
     ghost is_too_much = { IsPastNumbers };
 
-    const PASSES: bool = false;
-
-    // The tree takes each event when the next one comes.
+    // The tree takes all of an event or nothing.
     #[inline(always)]
     fn pass(&mut self, e: &Event, ends: &[Done]) -> bool {
-        let _ = e;
-        let _ = ends;
-        false
+        self.take(*e, ends).is_ok()
     }
 
     // A tree that has no number for a context is dropped, which does not allocate.
+    #[inline(never)]
     fn take(&mut self, e: Event, ends: &[Done]) -> Result<(), AllocError> {
         let Some(tree) = &mut self.tree else {
             return Ok(());

@@ -11,8 +11,8 @@ use std::alloc::AllocError;
 use trace_model::{Done, Event};
 
 /// What keeps the activations of a run that ended. It takes each event after the profiler, with the activations that ended at the
-/// event, the innermost first: at once if that needs no memory, and otherwise before the next event. So an event that the
-/// profiler took is not refused because the keeper runs out of memory.
+/// event, the innermost first: at once if it can, and otherwise before the next event. So an event that the profiler took is not
+/// refused because the keeper runs out of memory.
 pub trait Keeper: Drop {
     /// It holds this past, and the first few of these activations, which ended at the event after it.
     ghost holds: { Self → List Event → List Done → Type 0 };
@@ -20,11 +20,8 @@ pub trait Keeper: Drop {
     /// A past that is too much for it: it keeps nothing of that.
     ghost is_too_much: { List Event → Type 0 };
 
-    /// Whether it mostly takes an event at once. Where it doesn't, the profile goes no quicker way for such events.
-    const PASSES: bool;
-
-    /// Takes the event, with what ended at it, and answers `true` if that needs no memory. Otherwise the event is left for `take`,
-    /// with all that ended.
+    /// Takes the event, with what ended at it, and answers `true`, if that is quick and there is the memory. Otherwise the event is
+    /// left for `take`, with all that ended.
     fn pass(&mut self, e: &Event, ends: &[Done]) -> bool
         requires { MayKeep holds self.old [] e.now ends.now }
         ensures passes { (past : List Event) → holds self.old past [] → ends.now ≡ ended e.now past

@@ -106,8 +106,6 @@ impl Keeper for Points {
 
     ghost is_too_much = { λ past. ⊥ };
 
-    const PASSES: bool = true;
-
     // An event that ends no activation changes no point. One that ends an activation mostly changes the point that was changed last.
     #[inline(always)]
     fn pass(&mut self, e: &Event, ends: &[Done]) -> bool {

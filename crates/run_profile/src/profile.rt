@@ -414,38 +414,22 @@ impl<S: Lanes, K: Keeper> Observer for Profile<S, K> {
 
     #[inline(always)]
     fn observe_word_read(&mut self, tid: Tid, count: u64, w: Word) -> Answer {
-        if K::PASSES {
-            self.take_word_read(tid, count, w)
-        } else {
-            self.read_apart(tid, count, w)
-        }
+        self.take_word_read(tid, count, w)
     }
 
     #[inline(always)]
     fn observe_word_written(&mut self, tid: Tid, count: u64, w: Word) -> Answer {
-        if K::PASSES {
-            self.take_word_written(tid, count, w)
-        } else {
-            self.written_apart(tid, count, w)
-        }
+        self.take_word_written(tid, count, w)
     }
 
     #[inline(always)]
     fn observe_call(&mut self, tid: Tid, count: u64, entry: Addr, back: Addr) -> Answer {
-        if K::PASSES {
-            self.take_call(tid, count, entry, back)
-        } else {
-            self.call_apart(tid, count, entry, back)
-        }
+        self.take_call(tid, count, entry, back)
     }
 
     #[inline(always)]
     fn observe_return(&mut self, tid: Tid, count: u64, target: Addr) -> Answer {
-        if K::PASSES {
-            self.take_return(tid, count, target)
-        } else {
-            self.return_apart(tid, count, target)
-        }
+        self.take_return(tid, count, target)
     }
 
     #[inline(always)]
