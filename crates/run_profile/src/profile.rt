@@ -1,7 +1,8 @@
 //! The profile of a run that goes on.
-ghost use Rattle.std.specs.Prelude.{◌≡◌, ◌≤◌, ◌∷◌, [], List, None, true, false, length, Ok, IfOk, IsOk, OnErr, OnOk};
+ghost use Rattle.std.specs.Prelude.{◌≡◌, ◌≤◌, ◌∷◌, [], List, None, true, false, Ok, IfOk, IsOk, OnErr, OnOk};
 ghost use Rattle.trace_model.specs.declared.event_kinds.Event.{Event};
 ghost use Rattle.trace_model.specs.declared.event_kinds.Event.TheVariants.{Call, Read, Ret, Write};
+ghost use Rattle.std.specs.Vec.{vec_capacity};
 ghost use Rattle.trace_model.specs.declared.observer.Observed.{Observed};
 ghost use Rattle.trace_model.specs.Depth.{is_within};
 ghost use Rattle.trace_model.specs.Observing.{MayStepBy, MayTake, MayTakeAfter, Observes, ObservesAfter, StandsAsBefore, StepsBy, result_of, with_steps};
@@ -60,14 +61,24 @@ fn steps_of(e: &Event) -> u64
     }
 }
 
-// The one element of a list becomes another one. It is copied here, so that the compiler need not have it in memory where the list
-// does not get it.
+// The list gets one element, for which it has room.
+#[inline(never)]
+fn make_only(list: &mut Vec<Done>, one: Done)
+    requires { 1 ≤ vec_capacity list.old }
+    ensures { list.new.items ≡ one ∷ [] }
+{
+    list.clear();
+    list.push(one).unwrap();
+}
+
+// The same. The element is copied here, so that the compiler need not have it in memory where the list does not get it.
 #[inline(always)]
 fn keep_only(list: &mut Vec<Done>, one: &Done)
-    requires { length list.old.items ≡ 1 }
+    requires { 1 ≤ vec_capacity list.old }
     ensures { list.new.items ≡ one.now ∷ [] }
 {
-    list[0] = *one;
+    let copy = *one;
+    make_only(list, copy);
 }
 
 impl<S: Lanes, K: Keeper> Profile<S, K> {
@@ -316,7 +327,7 @@ impl<S: Lanes, K: Keeper> Profile<S, K> {
         if self.next.is_some() {
             return self.return_apart(tid, count, target);
         }
-        if self.ended.len() != 1 {
+        if self.ended.capacity() < 1 {
             return self.return_apart(tid, count, target);
         }
         match self.profiler.return_after(tid, count, target) {
