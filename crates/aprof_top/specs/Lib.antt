@@ -16,6 +16,7 @@ pub mod Report
 pub mod Run
 pub mod Schedules
 pub mod Standing
+pub mod StoredReports
 pub mod Summary
 pub mod Texts
 pub mod Traces

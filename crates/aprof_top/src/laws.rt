@@ -1,6 +1,7 @@
 //! Laws on the written product, each the contract of a function that does nothing but call other laws.
 ghost use Rattle.aprof_top.specs.Laws.{ContextsBeginWithTheReport, OneOutcome, RunsAreBounded, TracesReplay, TwoRunsAgree};
 ghost use Rattle.aprof_top.specs.ProgramLimits.{AreProgramLimits};
+ghost use Rattle.aprof_top.specs.StoredReports.{StoredReportsAreValid};
 
 use demo_guest::a_demo_has_one_file;
 use guest_run::{recordings_are_schedules, runs_replay, runs_stay_within};
@@ -39,6 +40,13 @@ pub fn traces_replay()
 /// have the same verdict and the same output of the guest.
 pub fn contexts_begin_with_the_report()
     ensures { ContextsBeginWithTheReport }
+{}
+
+/// The report that a command stores is valid: its routines stand by rising entry, their points by rising size, each number is in
+/// its width, and the parts and the costs of a point are those of as many activations. What `contexts` stores begins with such
+/// a report.
+pub fn stored_reports_are_valid()
+    ensures { StoredReportsAreValid }
 {}
 
 /// The run of a command is bounded by its budget, whatever the executable, its files and its schedule: in its steps, and in the
