@@ -1,5 +1,5 @@
 //! Laws on the written product, each the contract of a function that does nothing but call other laws.
-ghost use Rattle.aprof_top.specs.Laws.{ContextsBeginWithTheReport, OneOutcome, RunsAreBounded, TracesReplay, TwoRunsAgree};
+ghost use Rattle.aprof_top.specs.Laws.{ContextsBeginWithTheReport, EachCommandHasAnOutcome, OneOutcome, RunsAreBounded, TracesReplay, TwoRunsAgree};
 ghost use Rattle.aprof_top.specs.ProgramLimits.{AreProgramLimits};
 ghost use Rattle.aprof_top.specs.StoredReports.{StoredReportsAreValid};
 
@@ -17,6 +17,11 @@ pub fn a_command_has_one_outcome()
     a_text_is_of_one_trace();
     bytes_read_in_one_way();
 }
+
+/// No command lacks an outcome: whatever the words, and whatever the files that they load, it can't be that no outcome is right.
+pub fn a_command_has_an_outcome()
+    ensures { EachCommandHasAnOutcome }
+{}
 
 /// Two runs agree, where the second is under the recording that the first stored, with the same other words and files: verdict,
 /// output, recording and report are the same, unless the first run ended at an entry of its own schedule.
