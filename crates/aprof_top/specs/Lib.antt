@@ -2,6 +2,7 @@
 pub mod Answers
 pub mod CacheMisses
 pub mod ContextReports
+pub mod Contexts
 pub mod Delivery
 pub mod Ends
 pub mod Found

@@ -1,4 +1,5 @@
 //! Laws on the written product, each the contract of a function that does nothing but call other laws.
+ghost use Rattle.aprof_top.specs.Contexts.{ContextsAreATree};
 ghost use Rattle.aprof_top.specs.Laws.{ContextsBeginWithTheReport, EachCommandHasAnOutcome, OneOutcome, RunsAreBounded, TracesReplay, TwoRunsAgree};
 ghost use Rattle.aprof_top.specs.ProgramLimits.{AreProgramLimits};
 ghost use Rattle.aprof_top.specs.StoredReports.{StoredReportsAreValid};
@@ -45,6 +46,12 @@ pub fn traces_replay()
 /// have the same verdict and the same output of the guest.
 pub fn contexts_begin_with_the_report()
     ensures { ContextsBeginWithTheReport }
+{}
+
+/// The contexts of a run are a tree: that of an open activation is the one that it got when it began; and the order of the text
+/// is depth first, where those right under one context stand in order of their first begins.
+pub fn contexts_are_a_tree()
+    ensures { ContextsAreATree }
 {}
 
 /// The report that a command stores is valid: its routines stand by rising entry, their points by rising size, each number is in
