@@ -14,12 +14,12 @@ use Rattle.aprof_top.specs.Loads.{guest_loads, loaded_of}
 use Rattle.aprof_top.specs.Outcome.{Outcome, job_of, recording_stores, stage}
 use Rattle.aprof_top.specs.Report.{report_of}
 use Rattle.aprof_top.specs.Run.{run_of}
-use Rattle.aprof_top.proofs.StoredRuns.{came_to, either_outcome, run_is, stored_text}
+use Rattle.aprof_top.proofs.StoredRuns.{came_to, either_outcome, run_is, stored_some, stored_text}
 
 pub contexts_begin : ContextsBeginWithTheReport
 contexts_begin guest path options files bytes contexts ran is_contexts stored is_ran =
     let job = job_of guest path (Contexts options.bits) in
-    let came = came_to job files contexts (λ none. absurd (cc (sym stored ∙ none))) (stage (guest_loads guest) files) refl is_contexts in
+    let came = came_to job files contexts (stored_some contexts (λ none. absurd (cc (sym stored ∙ none)))) (stage (guest_loads guest) files) refl is_contexts in
     let loaded = loaded_of (guest_loads guest) files in
     let image = image_of loaded.image in
     let run : ObservedRun = run_of options.bits guest loaded came.turns in

@@ -38,7 +38,7 @@ use Rattle.aprof_top.specs.declared.source.Source.TheVariants as source
 use Rattle.aprof_top.specs.Traces.{is_storable, names_begun, trace_of}
 use Rattle.aprof_top.proofs.OneOutcome.{TracesAreKnown, replay_once}
 use Rattle.aprof_top.proofs.Runs.{formed_observed}
-use Rattle.aprof_top.proofs.StoredRuns.{came_to, run_is, stored_text}
+use Rattle.aprof_top.proofs.StoredRuns.{came_to, run_is, stored_some, stored_text}
 use Rattle.aprof_top.proofs.Recorded.{begun_rise}
 use Rattle.aprof_top.proofs.TraceEntries.{names_are}
 use Rattle.aprof_top.proofs.TraceRanges.{entry_low, records_fit}
@@ -139,7 +139,7 @@ alone path bytes short = rw short refl
 pub traces_replay : TracesAreKnown → TracesReplay
 traces_replay known guest report options files path bytes traced ran replayed few is_traced stored is_ran is_replayed =
     let job = job_of guest path Trace in
-    let came = came_to job files traced (λ none. absurd (cc (sym stored ∙ none))) (stage (guest_loads guest) files) refl is_traced in
+    let came = came_to job files traced (stored_some traced (λ none. absurd (cc (sym stored ∙ none)))) (stage (guest_loads guest) files) refl is_traced in
     let loaded = loaded_of (guest_loads guest) files in
     let image = image_of loaded.image in
     let wide : ObservedRun = run_of B32 guest loaded came.turns in

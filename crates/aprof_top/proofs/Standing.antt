@@ -450,10 +450,10 @@ module _ (words : List (List ℕ)) (status : ℕ) (before after : Outside) where
     where
       by : (path : List ℕ) × EndsBy words (CannotRead path) status before after → StandsUnread words before after
       by (path, ends') = record {
-        ends = (path, subst (λ n. EndsBy words (CannotRead path) n before after) two ends');
+        path = path;
+        ends = subst (λ n. EndsBy words (CannotRead path) n before after) two ends';
         found = found_after words before after ends'.err ends'.reached.found;
         undecided = ends'.reached.undecided;
-        path = path;
         next = ends'.reached.next;
         failed = ends'.reached.failed;
         leaves = text_alone words before after ends'.err (cannot_read_text path) (text ends'.told) ends'.reached.out ends'.reached.err ends'.reached.contents;

@@ -10,6 +10,7 @@ use Rattle.guest_machine.specs.declared.setup.SetupError.{SetupError}
 use Rattle.guest_machine.specs.Setup.{setup_refusal}
 use Rattle.guest_run.specs.ObservedRun.{ObservedRun}
 use Rattle.thread_sched.specs.declared.entry.Entry.{Entry}
+use Rattle.aprof_top.specs.declared.ending.Verdict.{Verdict}
 use Rattle.aprof_top.specs.declared.ending.Verdict.TheVariants.{BadImage, BadSchedule, TooLarge}
 use Rattle.aprof_top.specs.Loads.{Loaded, guest_loads, loaded_of}
 use Rattle.aprof_top.specs.Outcome.{ByImage, Follows, IsRun, Job, Outcome, Stage, begun_outcome, analysed, job_of, one_file, refusal, run_outcome, scheduled_outcome, stage}
@@ -17,9 +18,10 @@ use Rattle.aprof_top.specs.Outcome.Stage.{Complete, Loading, PastLimit}
 use Rattle.aprof_top.specs.Run.{run_of}
 use Rattle.aprof_top.specs.Schedules.{Reading, Reads}
 use Rattle.aprof_top.specs.Schedules.Reading.{BadLine, Turns}
+use Rattle.aprof_top.specs.Verdicts.{IsOfRun}
 use Rattle.aprof_top.proofs.OneOutcome.{reads_once}
 
--- A job that stored something ran its guest, under turns that were read.
+-- A job that was not refused ran its guest, under turns that were read.
 pub record CameTo (job : Job) (files : List (List ℕ)) (outcome : Outcome) : Type 0 where
   pub complete : stage (guest_loads job.guest) files ≡ Complete
   pub accepted : first_refusal (loaded_of (guest_loads job.guest) files).image ≡ None
@@ -28,28 +30,28 @@ pub record CameTo (job : Job) (files : List (List ℕ)) (outcome : Outcome) : Ty
   pub begins : setup_refusal (image_of (loaded_of (guest_loads job.guest) files).image) (arguments job.guest) ≡ None
   pub answered : outcome ≡ job.leaves (loaded_of (guest_loads job.guest) files) turns
 
-module _ (job : Job) (files : List (List ℕ)) (outcome : Outcome) (some : outcome.stores ≡ [] → ⊥) where
+module _ (job : Job) (files : List (List ℕ)) (outcome : Outcome) (some : (v : Verdict) → (IsOfRun v → ⊥) → outcome ≡ refusal v → ⊥) where
   abbrev loaded : Loaded
   loaded = loaded_of (guest_loads job.guest) files
 
-  none_stored : {A : Type 0} → (o : Outcome) → outcome ≡ o → o.stores ≡ [] → A
-  none_stored o is none = absurd (some (ap (λ (o : Outcome). o.stores) is ∙ none))
+  not_refused : {A : Type 0} → (v : Verdict) → (IsOfRun v → ⊥) → outcome ≡ refusal v → A
+  not_refused v no_run is = absurd (some v no_run is)
 
   module _ (complete : stage (guest_loads job.guest) files ≡ Complete) (accepted : first_refusal loaded.image ≡ None) where
     by_setup : (turns : List Entry) → Reads loaded.schedule (Turns turns) → (o : Option SetupError) → setup_refusal (image_of loaded.image) (arguments job.guest) ≡ o → outcome ≡ begun_outcome job loaded turns o → CameTo job files outcome
     by_setup turns read None begins is = record { complete = complete; accepted = accepted; turns = turns; read = read; begins = begins; answered = is }
-    by_setup turns read (Some why) begins is = none_stored (refusal TooLarge) is refl
+    by_setup turns read (Some why) begins is = not_refused TooLarge (λ ran. ran) is
 
     by_reading : (reading : Reading) → Reads loaded.schedule reading → outcome ≡ scheduled_outcome job loaded reading → CameTo job files outcome
     by_reading (Turns turns) read is = by_setup turns read (setup_refusal (image_of loaded.image) (arguments job.guest)) refl is
-    by_reading (BadLine line) read is = none_stored (refusal (BadSchedule line)) is refl
+    by_reading (BadLine line) read is = not_refused (BadSchedule line) (λ ran. ran) is
 
   by_image : stage (guest_loads job.guest) files ≡ Complete → (o : Option ElfError) → first_refusal loaded.image ≡ o → ByImage job loaded outcome o → CameTo job files outcome
   by_image complete None accepted is = by_reading complete accepted is.reading is.read is.answered
-  by_image complete (Some e) refused is = none_stored (refusal (BadImage e)) is refl
+  by_image complete (Some e) refused is = not_refused (BadImage e) (λ ran. ran) is
 
   pub came_to : (s : Stage) → stage (guest_loads job.guest) files ≡ s → Follows (IsRun job loaded) outcome s → CameTo job files outcome
-  came_to PastLimit is follows = none_stored (refusal TooLarge) follows refl
+  came_to PastLimit is follows = not_refused TooLarge (λ ran. ran) follows
   came_to Loading is follows = absurd follows
   came_to Complete is follows = by_image is (first_refusal loaded.image) refl follows
 
@@ -70,6 +72,10 @@ module _ (guest : GuestOptions) (report : List ℕ) (options : RunOptions) (leav
       scheduled.answered
       ∙ ap (scheduled_outcome (run_job guest report options) with_files) (reads_once with_files.schedule scheduled.reading (Turns came.turns) scheduled.read came.read)
       ∙ ap (begun_outcome (run_job guest report options) with_files came.turns) came.begins
+
+-- an outcome that stores something is no refusal
+pub stored_some : (outcome : Outcome) → (outcome.stores ≡ [] → ⊥) → (v : Verdict) → (IsOfRun v → ⊥) → outcome ≡ refusal v → ⊥
+stored_some outcome some v no_run is = some (ap (λ (o : Outcome). o.stores) is)
 
 -- what was stored is this text
 abbrev pub either_outcome : ObservedRun → List ℕ → List ℕ → Bool → Outcome

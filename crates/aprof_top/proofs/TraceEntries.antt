@@ -90,7 +90,7 @@ module _ (P : ℕ → Type 0) where
       All-append IsOfEntry (begun e t (length past)) (drop (count_ending e t (backs calls)) calls) (begun_all e past t (length past) all)
       (All-drop IsOfEntry (count_ending e t (backs calls)) calls (open_all past t (earlier e past all)))
 
-  abbrev IsDoneOf : Done → Type 0
+  abbrev pub IsDoneOf : Done → Type 0
   IsDoneOf d = P d.entry
 
   ended_all : (past : List Event) (e : Event) (of : Option ℕ) → All P (begins past) → All IsDoneOf (ended_of past e of)
@@ -99,13 +99,13 @@ module _ (P : ℕ → Type 0) where
       let calls = open_calls past t in
       All-map IsDoneOf (done_of past t) (ending_calls e past t) (All-take IsOfEntry (count_ending e t (backs calls)) calls (open_all past t all))
 
-  done_all : (past : List Event) → All P (begins past) → All IsDoneOf (done past)
+  pub done_all : (past : List Event) → All P (begins past) → All IsDoneOf (done past)
   done_all [] all = All-nil IsDoneOf
   done_all (e ∷ past) all =
       All-append IsDoneOf (done past) (ended e past) (done_all past (earlier e past all)) (ended_all past e (thread_of e) (earlier e past all))
 
   -- and those of a past that is cut
-  cut_all : (fits : List Event → Bool) (past : List Event) → All P (begins past) → All P (begins (cut fits past))
+  pub cut_all : (fits : List Event → Bool) (past : List Event) → All P (begins past) → All P (begins (cut fits past))
   cut_all fits [] all = all
   cut_all fits (e ∷ past) all = by (fits (e ∷ past)) (cut_all fits past (earlier e past all))
     where

@@ -70,7 +70,7 @@ entry_low file accepted =
 abbrev IsNamed : Symbol → Type 0
 IsNamed s = is_name s.name ≡ true
 
-abbrev OfSome : {X : Type 0} → (X → Type 0) → Option X → Type 0
+abbrev pub OfSome : {X : Type 0} → (X → Type 0) → Option X → Type 0
 OfSome Holds None = Unit {0}
 OfSome Holds (Some x) = Holds x
 
@@ -128,10 +128,10 @@ symbol_of_named : (all : List Symbol) (at : ℕ) → All IsNamed all → OfSome 
 unfolding symbol_of
 symbol_of_named all at named = best_named None (filter (λ s. s.value == at) all) tt (All-filter (λ s. s.value == at) IsNamed all named)
 
-abbrev HasName : ℕ × List ℕ → Type 0
+abbrev pub HasName : ℕ × List ℕ → Type 0
 HasName named = is_name named.1 ≡ true
 
-names_named : (file : List ℕ) → All HasName (names_of file)
+pub names_named : (file : List ℕ) → All HasName (names_of file)
 unfolding names_of
 names_named file = all_given HasName _ (range_with_len 0 addresses) (λ at. by at (symbol_of (symbols file) at) (symbol_of_named (symbols file) at (symbols_named file)))
   where
@@ -139,7 +139,7 @@ names_named file = all_given HasName _ (range_with_len 0 addresses) (λ at. by a
     by at None named = tt
     by at (Some s) named = named
 
-beside_named : (names : List (ℕ × List ℕ)) (at : ℕ) → All HasName names → OfSome (λ name. is_name name ≡ true) (name_beside names at)
+pub beside_named : (names : List (ℕ × List ℕ)) (at : ℕ) → All HasName names → OfSome (λ name. is_name name ≡ true) (name_beside names at)
 beside_named [] at named = tt
 beside_named (n ∷ names) at named = by (n.0 == at) refl (beside_named names at (All-tail HasName n names named))
   where
@@ -199,7 +199,7 @@ finish_fits lines (ends.Schedule line) few is =
 finish_fits lines _ few is = record { ranges = tt; content = tt }
 
 -- ---- the whole
-begun_low : (past : List Event) → AllByRecursion IsEventInRange past → All IsAddress (begins past)
+pub begun_low : (past : List Event) → AllByRecursion IsEventInRange past → All IsAddress (begins past)
 begun_low [] all = All-nil IsAddress
 begun_low (Start tid entry ∷ past) all = All-cons IsAddress entry (begins past) all.0.1 (begun_low past all.1)
 begun_low (Call tid entry back ∷ past) all = All-cons IsAddress entry (begins past) all.0.1 (begun_low past all.1)

@@ -1,6 +1,6 @@
 -- Laws on the outcomes of commands.
 use Rattle.std.specs.Prelude.{◌≡◌, ◌≤◌, ℕ, List, [], ◌∷◌, ◌++◌, length, take, slice_get, Option, Some}
-use Rattle.command_line.specs.Options.{Asked, GuestOptions, ReplayOptions, RunOptions}
+use Rattle.command_line.specs.Options.{Asked, AsksFor, GuestOptions, ReplayOptions, RunOptions}
 use Rattle.command_line.specs.Options.Analysis.{Run, Trace, Contexts}
 use Rattle.command_line.specs.Options.Asked.{Guest, Replay}
 use Rattle.guest_run.specs.Laws.{IsNoMismatch, TurnsHaveMoves}
@@ -14,12 +14,19 @@ use Rattle.stamps.specs.declared.width.StampBits.{StampBits}
 use Rattle.thread_sched.specs.declared.entry.Entry.{Entry}
 use Rattle.trace_model.specs.Profile.{steps}
 use Rattle.aprof_top.specs.Loads.{Loaded, loads_but_schedule}
-use Rattle.aprof_top.specs.Outcome.{IsOutcome, Outcome}
+use Rattle.aprof_top.specs.Outcome.{IsOutcome, IsUndecided, Outcome}
 use Rattle.aprof_top.specs.Run.{run_of, whole_run_of}
 
 -- what is asked and the bytes of the files decide the outcome: one verdict, with the same output and the same files to store
 abbrev pub OneOutcome : Type 0
 OneOutcome = (asked : Option Asked) (files : List (List ℕ)) (a b : Outcome) → IsOutcome asked files a → IsOutcome asked files b → a ≡ b
+
+-- Whatever words ask for, and whatever the files are that were loaded for it: where no more are to be loaded, it can't be that
+-- there is no outcome.
+abbrev pub EachCommandHasAnOutcome : Type 0
+EachCommandHasAnOutcome =
+    (words : List (List ℕ)) (asked : Option Asked) (files : List (List ℕ)) → AsksFor words asked → (IsUndecided asked files → ⊥)
+    → ((outcome : Outcome) → IsOutcome asked files outcome → ⊥) → ⊥
 
 -- the same options, with the schedule at this path
 abbrev pub under_schedule : GuestOptions → List ℕ → GuestOptions

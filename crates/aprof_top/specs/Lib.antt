@@ -2,6 +2,7 @@
 pub mod Answers
 pub mod CacheMisses
 pub mod ContextReports
+pub mod Contexts
 pub mod Delivery
 pub mod Ends
 pub mod Found
@@ -16,6 +17,7 @@ pub mod Report
 pub mod Run
 pub mod Schedules
 pub mod Standing
+pub mod StoredReports
 pub mod Summary
 pub mod Texts
 pub mod Traces

@@ -8,6 +8,7 @@ use Rattle.guest_kernel.specs.Inputs.{Input}
 use Rattle.guest_kernel.specs.Kernel.{started}
 use Rattle.guest_calls.specs.Vectors.{part_limit}
 use Rattle.guest_machine.specs.Start.{strings_limit}
+use Rattle.rv_asm.specs.declared.limits.TheConstants.{PROGRAM_LINES}
 use Rattle.stamps.specs.Widths.{greatest}
 use Rattle.stamps.specs.declared.width.StampBits.TheVariants.{B8, B16, B32}
 
@@ -21,6 +22,8 @@ pub record AreProgramLimits : Type 0 where
   pub path_bytes : path_limit ≡ 4096
   pub parts : part_limit ≡ 1024
   pub write_bytes : write_limit ≡ 65536
+  -- lines of a program that is assembled
+  pub program_lines : PROGRAM_LINES ≡ 4000000
   -- the greatest stamp of each width
   pub stamps_of_8 : greatest B8 ≡ 2 ^ 8 - 1
   pub stamps_of_16 : greatest B16 ≡ 2 ^ 16 - 1

@@ -103,11 +103,11 @@ pub record IsCalm (text : List ℕ) (before after : Outside) : Type 0 where
 
 -- After status 2: the load of the next path failed, and nothing came but the last text or a first part of it.
 pub record StandsUnread (words : List (List ℕ)) (before after : Outside) : Type 0 where
-  -- how the call ended
-  pub ends : (path : List ℕ) × EndsBy words (CannotRead path) 2 before after
+  pub path : List ℕ
+  -- how the call ended, at this path
+  pub ends : EndsBy words (CannotRead path) 2 before after
   pub found : Found words before after
   pub undecided : IsUndecided found.asked found.files
-  pub path : List ℕ
   pub next : slice_get (paths_of found.asked) (length found.files) ≡ Some path
   pub failed : FailsAt path before.files after.files
   pub leaves : LeavesText (cannot_read_text path) before after

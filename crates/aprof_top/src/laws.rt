@@ -1,6 +1,8 @@
 //! Laws on the written product, each the contract of a function that does nothing but call other laws.
-ghost use Rattle.aprof_top.specs.Laws.{ContextsBeginWithTheReport, OneOutcome, RunsAreBounded, TracesReplay, TwoRunsAgree};
+ghost use Rattle.aprof_top.specs.Contexts.{ContextsAreATree};
+ghost use Rattle.aprof_top.specs.Laws.{ContextsBeginWithTheReport, EachCommandHasAnOutcome, OneOutcome, RunsAreBounded, TracesReplay, TwoRunsAgree};
 ghost use Rattle.aprof_top.specs.ProgramLimits.{AreProgramLimits};
+ghost use Rattle.aprof_top.specs.StoredReports.{StoredReportsAreValid};
 
 use demo_guest::a_demo_has_one_file;
 use guest_run::{recordings_are_schedules, runs_replay, runs_stay_within};
@@ -16,6 +18,11 @@ pub fn a_command_has_one_outcome()
     a_text_is_of_one_trace();
     bytes_read_in_one_way();
 }
+
+/// No command lacks an outcome: whatever the words, and whatever the files that they load, it can't be that no outcome is right.
+pub fn a_command_has_an_outcome()
+    ensures { EachCommandHasAnOutcome }
+{}
 
 /// Two runs agree, where the second is under the recording that the first stored, with the same other words and files: verdict,
 /// output, recording and report are the same, unless the first run ended at an entry of its own schedule.
@@ -39,6 +46,19 @@ pub fn traces_replay()
 /// have the same verdict and the same output of the guest.
 pub fn contexts_begin_with_the_report()
     ensures { ContextsBeginWithTheReport }
+{}
+
+/// The contexts of a run are a tree: that of an open activation is the one that it got when it began; and the order of the text
+/// is depth first, where those right under one context stand in order of their first begins.
+pub fn contexts_are_a_tree()
+    ensures { ContextsAreATree }
+{}
+
+/// The report that a command stores is valid: its routines stand by rising entry, their points by rising size, each number is in
+/// its width, and the parts and the costs of a point are those of as many activations. What `contexts` stores begins with such
+/// a report.
+pub fn stored_reports_are_valid()
+    ensures { StoredReportsAreValid }
 {}
 
 /// The run of a command is bounded by its budget, whatever the executable, its files and its schedule: in its steps, and in the

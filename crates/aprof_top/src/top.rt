@@ -3,6 +3,7 @@ ghost use Rattle.std.specs.Prelude.{◌≤◌, map, string_bytes};
 ghost use Rattle.aprof_top.specs.Answers.{EndsBy, IsAnswered};
 ghost use Rattle.aprof_top.specs.Ends.{End};
 ghost use Rattle.aprof_top.specs.Standing.{Stands};
+ghost use Rattle.aprof_top.specs.StoredReports.{ReportsAreValid};
 ghost use Rattle.aprof_top.specs.Private.Ending.{AskedEnds, end_of};
 ghost use Rattle.aprof_top.specs.Private.Jobs.{HandsOut, ending_by};
 ghost use Rattle.aprof_top.specs.Private.Loading.{LoadsSo, loaded_in};
@@ -129,7 +130,8 @@ fn answer<F: Files, O: Sink, E: Sink>(
 /// output or of the line of `--stats`, failed, and what came before is a first part of the outcome. At 10 memory ran out, and
 /// no load, store or put had failed, unless it was the last text of another status that could not be allocated; then the last
 /// text of out of memory was put on `err`, unless a put on `err` had failed or that put ran out of memory too. If nothing
-/// failed and no file was too long, the status is the outcome's, or 10.
+/// failed and no file was too long, the status is the outcome's, or 10. Whatever outcome is decided, a report that it stores is a
+/// valid one.
 pub fn aprof<F: Files, O: Sink, E: Sink>(
     alloc: Global,
     words: &[String],
@@ -141,6 +143,9 @@ pub fn aprof<F: Files, O: Sink, E: Sink>(
         (outside (F.state files.old) (O.state out.old) (E.state err.old))
         (outside (F.state files.new) (O.state out.new) (E.state err.new)) }
     ensures stands { Stands (map string_bytes words.now) result
+        (outside (F.state files.old) (O.state out.old) (E.state err.old))
+        (outside (F.state files.new) (O.state out.new) (E.state err.new)) }
+    ensures reports { ReportsAreValid (map string_bytes words.now)
         (outside (F.state files.old) (O.state out.old) (E.state err.old))
         (outside (F.state files.new) (O.state out.new) (E.state err.new)) }
 {
