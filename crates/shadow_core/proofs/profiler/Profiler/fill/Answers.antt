@@ -27,9 +27,9 @@ returns-clause-table g c =
     let count = c.args.count in
     let covered = c.cover.ensures in
     let number : g.S.Stamp.number_of c.from_number-now.result ≡ c.advance.new.counter =
-    ap g.S.Stamp.number_of c.from_number-now.ensures ∙ g.met.S.Stamp.number_back c.advance.new.counter c.advance.ensures.within in
+    ap g.S.Stamp.number_of c.from_number-now.ensures ∙ g.met.S.Stamp.number_back c.advance.new.counter c.advance.ensures.advanced.within in
     filled g.S.Stamp.MAX first count _ c.cover.new.writes.pages c.cover.new.marks.pages _ c.fill.new.writes.pages c.fill.new.marks.pages
-    covered.stamps covered.kinds c.advance.ensures
+    covered.stamps covered.kinds c.advance.ensures.advanced
     (λ w. c.fill.ensures.writes.stamps w ∙ ap (λ (n : ℕ). cond (in_range first count w) n (stamp_at c.advance.new.writes.pages w)) number)
     c.fill.ensures.marks.stamps
     ∙ ap (λ (k : State). table_after (bounded_tick g.S.Stamp.MAX) (Fill first count) (table_of_state k)) c.self.view_is
@@ -38,7 +38,7 @@ pub returns-clause-pages : goal.returns-clause-pages
 returns-clause-pages g c = λ all.
     let same = c.cover.ensures.same (subst (λ (k : State). AreCovered k.writes c.args.first c.args.count) (sym c.self.view_is) all) in
     seen_same c.self.view_is (record {
-      writes = λ w. c.fill.ensures.writes.covered w ∙ c.advance.ensures.covered w ∙ ap (λ ps. covers ps w) same.0;
+      writes = λ w. c.fill.ensures.writes.covered w ∙ c.advance.ensures.advanced.covered w ∙ ap (λ ps. covers ps w) same.0;
       marks = λ w. c.fill.ensures.marks.covered w ∙ ap (λ ps. covers ps w) same.1;
-      accesses = advanced_alike g.S.Stamp.MAX true _ _ c.advance.ensures;
+      accesses = advanced_alike g.S.Stamp.MAX true _ _ c.advance.ensures.advanced;
     })
