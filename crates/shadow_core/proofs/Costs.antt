@@ -99,3 +99,8 @@ stamps_with (x ∷ xs) t v is = by (x.0 == t) is (λ later. stamps_with xs t v l
         sum_by own_stamps (cond b ((x.0, v) ∷ xs) (x ∷ with_value xs t v)) ≡ sum_by own_stamps (x ∷ xs)
     by true is later = sum_by-append own_stamps ((x.0, v) ∷ []) xs ∙ ap (λ n. 0 + n + sum_by own_stamps xs) is ∙ sym (sum_by-append own_stamps (x ∷ []) xs)
     by false is later = sum_by-append own_stamps (x ∷ []) (with_value xs t v) ∙ ap (λ n. 0 + own_stamps x + n) (later is) ∙ sym (sum_by-append own_stamps (x ∷ []) xs)
+
+-- some more pages
+pub ticked_more : (b : Bool) (threads was now count : ℕ) → now ≤ was + count → cond b 0 (threads + 1024 * now) ≤ cond b 0 (threads + 1024 * was + 1024 * count)
+ticked_more true threads was now count few = omega arith
+ticked_more false threads was now count few = omega (arith, few)

@@ -1,14 +1,14 @@
 -- What an event costs: look-ups of threads and of pages, comparisons of stamps and of return addresses, and stamps and marks that
 -- are read or written, each one step. The making of memory is no step.
-use Rattle.std.specs.Prelude.{ℕ, ◌+◌, ◌*◌, ◌^◌, ◌<◌, ◌≤◌, ◌==◌, if◌then◌else◌, length, map, count_by}
+use Rattle.std.specs.Prelude.{ℕ, ◌+◌, ◌*◌, ◌^◌, ◌<◌, ◌≤◌, ◌==◌, if◌then◌else◌, nat_lt, length, map, count_by}
 use Rattle.std.specs.List.{range_with_len}
 use Rattle.trace_model.specs.declared.event_kinds.Event.{Event}
 use Rattle.trace_model.specs.declared.event_kinds.Event.TheVariants.{Read, Write, Fill, Ret, End}
 use Rattle.trace_model.specs.Activations.{count_returned}
 use Rattle.shadow_stack.specs.Costs.{is_old}
 use Rattle.shadow_stack.specs.Frames.{starts_of}
-use Rattle.shadow_pages.specs.Pages.{AreCovered, stamp_at}
-use Rattle.stamp_renumber.specs.Costs.{tick_cost}
+use Rattle.shadow_pages.specs.Pages.{stamp_at}
+use Rattle.stamp_renumber.specs.Costs.{stamps_in, tick_cost}
 use Rattle.stamp_renumber.specs.Threads.{Live, all_starts, calls_of, frames_of, pages_of}
 use Rattle.stamp_table.specs.Ticks.{ticks}
 use Rattle.shadow_core.specs.State.{State}
@@ -38,17 +38,19 @@ most_untimed digits (Ret t target) s = 8 + 4 * calls_seen s.live t target
 most_untimed digits (End t) s = 8 + 4 * length (frames_of s.live.threads t)
 most_untimed digits _ s = 8
 
--- and with it: a tick writes each stamp once where the counter is at its greatest, and else none
-abbrev pub most_steps : ℕ → ℕ → Event → State → ℕ
-most_steps most digits e s =
-    most_untimed digits e s + (if ticks e s.last then tick_cost most s.counter s.live s.writes else 0)
+-- A tick writes none, but each stamp once where the counter is at its greatest. A fill makes its pages before: at most one for each word.
+abbrev pub most_ticked : ℕ → Event → State → ℕ
+most_ticked most (Fill first count) s = if nat_lt s.counter most then 0 else stamps_in s.live s.writes + 1024 * count
+most_ticked most _ s = tick_cost most s.counter s.live s.writes
 
--- The depth of a thread that reads has at most `digits` binary digits, and a fill makes no page.
-abbrev pub IsPlain : ℕ → Event → State → Type 0
-IsPlain digits (Read t first count) s = HasDigits digits s.live t
-IsPlain digits (Fill first count) s = AreCovered s.writes first count
-IsPlain digits _ s = Unit {0}
+abbrev pub most_steps : ℕ → ℕ → Event → State → ℕ
+most_steps most digits e s = most_untimed digits e s + (if ticks e s.last then most_ticked most e s else 0)
+
+-- the depth of a thread that reads has at most so many binary digits
+abbrev pub FitsDigits : ℕ → Event → State → Type 0
+FitsDigits digits (Read t first count) s = HasDigits digits s.live t
+FitsDigits digits _ s = Unit {0}
 
 -- The event counts at most so many steps, from the count before it to that after it.
 abbrev pub CostsAtMost : ℕ → Event → State → ℕ → ℕ → Type 0
-CostsAtMost most e s before after = (digits : ℕ) → IsPlain digits e s → after ≤ before + most_steps most digits e s
+CostsAtMost most e s before after = (digits : ℕ) → FitsDigits digits e s → after ≤ before + most_steps most digits e s
