@@ -22,3 +22,4 @@ pub mod Popped
 pub mod Ended
 pub mod SamePages
 pub mod After
+pub mod Costs

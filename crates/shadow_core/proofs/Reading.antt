@@ -203,7 +203,7 @@ nothing_read live t write marks first stamp lives = record {
     in_none : (first w : ℕ) → in_range first 0 w ≡ false
     in_none first w = grind (arith, nat_tests)
 
-range_append : (first n m at : ℕ) → at ≡ first + n → range_with_len first (n + m) ≡ range_with_len first n ++ range_with_len at m
+pub range_append : (first n m at : ℕ) → at ≡ first + n → range_with_len first (n + m) ≡ range_with_len first n ++ range_with_len at m
 range_append first zero m at is =
     let none : 0 + m ≡ m = omega arith in
     let same : first ≡ at = omega (arith, is) in
@@ -223,7 +223,7 @@ places_same own own' write marks at (suc m) same =
 in_both : (first n m at w a b : ℕ) → at ≡ first + n → cond (in_range at m w) a (cond (in_range first n w) a b) ≡ cond (in_range first (n + m) w) a b
 in_both first n m at w a b is = grind (arith, nat_tests)
 
-not_before : (first n w : ℕ) → first + n ≤ w → in_range first n w ≡ false
+pub not_before : (first n w : ℕ) → first + n ≤ w → in_range first n w ≡ false
 not_before first n w high = grind (arith, nat_tests)
 
 -- ---- how great the sums are after reads

@@ -1,5 +1,5 @@
 //! Memory for the stamps of words.
-ghost use Rattle.std.specs.Prelude.{◌≡◌, ◌+◌, ◌^◌, ◌<◌, ◌≤◌, ◌++◌, ◌∷◌, [], ℕ, true, is_some, All, IsOk, OnErr, OnOk};
+ghost use Rattle.std.specs.Prelude.{◌≡◌, ◌+◌, ◌^◌, ◌<◌, ◌≤◌, ◌++◌, ◌∷◌, [], ℕ, true, is_some, length, All, IsOk, OnErr, OnOk};
 ghost use Rattle.guest_words.specs.ByThread.{numbers, value_of};
 ghost use Rattle.shadow_pages.specs.Pages.{AreCovered, covers, stamp_at};
 ghost use Rattle.call_tracker.specs.ThreadCalls.{no_counts};
@@ -31,6 +31,7 @@ pub(crate) fn cover<S: Stamp>(
     ensures covered { AreCovered writes.old.pages first count → IsOk result }
     ensures same { AreCovered writes.old.pages first count
         → (writes.new.pages ≡ writes.old.pages) × (marks.new.pages ≡ marks.old.pages) }
+    ensures few { length writes.new.pages ≤ length writes.old.pages + count }
 {
     if count == 1 && writes.covers(first) {
         return Ok(());
@@ -57,6 +58,7 @@ fn cover_all<S: Stamp>(
     ensures covered { AreCovered writes.old.pages first count → IsOk result }
     ensures same { AreCovered writes.old.pages first count
         → (writes.new.pages ≡ writes.old.pages) × (marks.new.pages ≡ marks.old.pages) }
+    ensures few { length writes.new.pages ≤ length writes.old.pages + count }
 {
     marks.reserve(first, count)?;
     writes.reserve(first, count)

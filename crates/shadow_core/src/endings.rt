@@ -1,5 +1,5 @@
 //! What is recorded of calls that end.
-ghost use Rattle.std.specs.Prelude.{◌≡◌, ◌+◌, ◌-◌, ◌<◌, ◌≤◌, ◌^◌, ◌++◌, ◌∷◌, [], ℕ, is_some, length, reverse, true, vec_len};
+ghost use Rattle.std.specs.Prelude.{◌≡◌, ◌+◌, ◌-◌, ◌*◌, ◌<◌, ◌≤◌, ◌^◌, ◌++◌, ◌∷◌, [], ℕ, is_some, length, reverse, true, vec_len};
 ghost use Rattle.std.specs.Vec.{vec_capacity};
 ghost use Rattle.guest_words.specs.ByThread.{value_of};
 ghost use Rattle.stamp_renumber.specs.Threads.{calls_of, frames_of};
@@ -10,9 +10,10 @@ ghost use Rattle.stamp_table.specs.Records.{nat_of, record_of};
 
 use call_tracker::{BegunCall, ThreadCounts};
 use guest_words::Tid;
-use shadow_stack::Sums;
+use shadow_stack::{Steps, Sums};
 use stamp_lanes::Lanes;
 use stamp_renumber::{EndedCall, Threads};
+use std::sync::ledger::Ledger;
 use trace_model::Done;
 
 // A number, and 0 for one below it.
@@ -70,7 +71,12 @@ fn record_call(tid: Tid, ended: EndedCall, done: &mut Vec<Done>)
 
 // Ends the innermost call of the thread, and records it. There is room for the record.
 #[inline(always)]
-fn end_call<S: Lanes>(threads: &mut Threads<S>, tid: Tid, done: &mut Vec<Done>)
+fn end_call<S: Lanes, L: Ledger>(
+    threads: &mut Threads<S>,
+    tid: Tid,
+    done: &mut Vec<Done>,
+    steps: &mut Steps<L>,
+)
     requires lives { is_some (value_of threads.old.threads tid) ≡ true }
     requires frames { 1 ≤ length (frames_of threads.old.threads tid) }
     requires calls { 1 ≤ length (calls_of threads.old.threads tid).list }
@@ -81,18 +87,21 @@ fn end_call<S: Lanes>(threads: &mut Threads<S>, tid: Tid, done: &mut Vec<Done>)
     ensures ended { IsEnded tid 1 threads.old threads.new done.old.items done.new.items }
     ensures capacity { vec_capacity done.old ≤ vec_capacity done.new }
     ensures count { vec_len done.new ≡ vec_len done.old + 1 }
+    ensures cost { steps.new ≡ steps.old + 2 }
 {
+    steps.count(2); // the thread, and its innermost frame
     let ended = threads.end(tid);
     record_call(tid, ended, done);
 }
 
 /// Ends `ended` calls of the thread, the innermost first, and records them. There is room for the records.
 #[inline(always)]
-pub(crate) fn end_calls<S: Lanes>(
+pub(crate) fn end_calls<S: Lanes, L: Ledger>(
     threads: &mut Threads<S>,
     tid: Tid,
     ended: usize,
     done: &mut Vec<Done>,
+    steps: &mut Steps<L>,
 )
     requires lives { is_some (value_of threads.old.threads tid) ≡ true }
     requires frames { ended ≤ length (frames_of threads.old.threads tid) }
@@ -102,19 +111,26 @@ pub(crate) fn end_calls<S: Lanes>(
     requires thread { (calls_of threads.old.threads tid).counts.thread < 2 ^ 62 }
     requires kernel { (calls_of threads.old.threads tid).counts.kernel < 2 ^ 62 }
     requires room { vec_len done.old + ended ≤ vec_capacity done.old }
-    ensures { IsEnded tid ended threads.old threads.new done.old.items done.new.items }
+    ensures ended { IsEnded tid ended threads.old threads.new done.old.items done.new.items }
+    ensures cost { steps.new ≡ steps.old + 2 * ended }
 {
     if ended == 1 {
-        end_call(threads, tid, done);
+        end_call(threads, tid, done, steps);
     } else {
-        end_many(threads, tid, ended, done);
+        end_many(threads, tid, ended, done, steps);
     }
 }
 
 // The same, one after the other.
 #[cold]
 #[inline(never)]
-fn end_many<S: Lanes>(threads: &mut Threads<S>, tid: Tid, ended: usize, done: &mut Vec<Done>)
+fn end_many<S: Lanes, L: Ledger>(
+    threads: &mut Threads<S>,
+    tid: Tid,
+    ended: usize,
+    done: &mut Vec<Done>,
+    steps: &mut Steps<L>,
+)
     requires lives { is_some (value_of threads.old.threads tid) ≡ true }
     requires frames { ended ≤ length (frames_of threads.old.threads tid) }
     requires calls { ended ≤ length (calls_of threads.old.threads tid).list }
@@ -123,11 +139,12 @@ fn end_many<S: Lanes>(threads: &mut Threads<S>, tid: Tid, ended: usize, done: &m
     requires thread { (calls_of threads.old.threads tid).counts.thread < 2 ^ 62 }
     requires kernel { (calls_of threads.old.threads tid).counts.kernel < 2 ^ 62 }
     requires room { vec_len done.old + ended ≤ vec_capacity done.old }
-    ensures { IsEnded tid ended threads.old threads.new done.old.items done.new.items }
+    ensures ended { IsEnded tid ended threads.old threads.new done.old.items done.new.items }
+    ensures cost { steps.new ≡ steps.old + 2 * ended }
 {
     let mut count = 0;
     while count < ended {
-        end_call(threads, tid, done);
+        end_call(threads, tid, done, steps);
         count += 1;
     }
 }

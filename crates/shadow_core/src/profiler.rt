@@ -1,5 +1,5 @@
 //! The online profiler.
-ghost use Rattle.std.specs.Prelude.{◌≡◌, ◌==◌, ◌≤◌, ◌+◌, ◌*◌, ◌++◌, ◌∷◌, [], List, Some, map, nat_lt, true, false, vec_len, Err, IfErr, IfNone, IfOk, IfSome, IsOk, OnErr, OnOk, length};
+ghost use Rattle.std.specs.Prelude.{◌≡◌, ◌==◌, ◌≤◌, ◌<◌, ◌+◌, ◌*◌, ◌++◌, ◌∷◌, [], List, Some, map, nat_lt, true, false, vec_len, Err, IfErr, IfNone, IfOk, IfSome, IsOk, OnErr, OnOk, length};
 ghost use Rattle.trace_model.specs.declared.event_kinds.Event.{Event};
 ghost use Rattle.trace_model.specs.declared.event_kinds.Event.TheVariants.{Call, End, Fill, Read, Ret, Start, Step, Write};
 ghost use Rattle.std.specs.Vec.{vec_capacity};
@@ -7,10 +7,13 @@ ghost use Rattle.trace_model.specs.Activations.{count_returned};
 ghost use Rattle.trace_model.specs.Depth.{count_begun, is_within, pending};
 ghost use Rattle.trace_model.specs.Observing.{MayStepBy, MayTake, MayTakeAfter, with_steps};
 ghost use Rattle.shadow_pages.specs.Pages.{AreCovered, HasPlace, stamp_at};
+ghost use Rattle.stamp_renumber.specs.Costs.{tick_cost};
 ghost use Rattle.stamp_renumber.specs.Threads.{all_starts, calls_of, pages_of};
 ghost use Rattle.shadow_core.specs.declared.apply_error.ApplyError.TheVariants.{Memory, TooDeep};
 ghost use Rattle.shadow_core.specs.Accesses.{IsAccessTo, IsLatestOf};
 ghost use Rattle.shadow_core.specs.Applying.{HasSamePages, IsTaken, DoesNotAllocate};
+ghost use Rattle.shadow_core.specs.Costs.{CostsAtMost, calls_seen};
+ghost use Rattle.shadow_core.specs.Private.Reading.{IsReadWithin};
 ghost use Rattle.stamp_table.specs.Allows.{is_too_deep};
 ghost use Rattle.stamp_table.specs.Counting.{renumberings};
 ghost use Rattle.shadow_core.specs.Profiling.{StandsFor};
@@ -30,10 +33,12 @@ use crate::rows::ZeroRows;
 use crate::writes::{Latest, fill, is_latest, latest_of, write, write_at};
 use guest_words::{Addr, Tid, Word};
 use shadow_pages::Shadow;
+use shadow_stack::Steps;
 use stamp_lanes::Lanes;
 use stamp_renumber::{Returned, Threads};
 use std::alloc::{AllocError, Global};
-use std::marker::Model;
+use std::marker::{Brand, Model};
+use std::sync::ledger::{Blank, Ledger};
 use trace_model::{Done, Event};
 
 /// Where the stamps of a word are that its thread writes: of the thread's access and of the latest write.
@@ -137,16 +142,18 @@ impl<S: Lanes> Profiler<S> {
 
     // A step of a thread that lives.
     #[inline(always)]
-    fn step(&mut self, tid: Tid)
+    fn step<L: Ledger>(&mut self, tid: Tid, steps: &mut Steps<L>)
         requires { MayTake (StandsFor S.MAX) self.old (Step tid) }
         ensures pages { HasSamePages self.old self.new }
         ensures table { table_of_state self.new ≡ table_after (bounded_tick S.MAX) (Step tid)
             (table_of_state self.old) }
+        ensures cost { CostsAtMost S.MAX (Step tid) self.old steps.old steps.new }
     {
         if is_running(self.last, tid) {
+            steps.tick(); // the thread
             self.steps_on(tid, 1);
         } else {
-            self.step_first(tid);
+            self.step_first(tid, steps);
         }
     }
 
@@ -194,7 +201,7 @@ impl<S: Lanes> Profiler<S> {
         ensures pages { HasSamePages self.old self.new }
     {
         self.steps_on(tid, steps);
-        self.read_known(tid, w, access);
+        self.read_known_with::<Brand>(tid, w, access, Blank::new(1));
     }
 
     /// Where the thread's access to a word and the word's latest write are kept, with their stamps and the mark, if the thread
@@ -316,7 +323,7 @@ impl<S: Lanes> Profiler<S> {
         ensures table { table_of_state self.new ≡ table_after_steps (bounded_tick S.MAX) tid count
             (table_of_state self.old) }
     {
-        self.step_first(tid);
+        self.step_first_with::<Brand>(tid, Blank::new(1));
         if count > 1 {
             self.steps_on(tid, count - 1);
         }
@@ -325,35 +332,61 @@ impl<S: Lanes> Profiler<S> {
     // The first step of a thread after that of another, or of all.
     #[cold]
     #[inline(never)]
-    fn step_first(&mut self, tid: Tid)
+    fn step_first<L: Ledger>(&mut self, tid: Tid, steps: &mut Steps<L>)
         requires { MayTake (StandsFor S.MAX) self.old (Step tid) }
         ensures pages { HasSamePages self.old self.new }
         ensures table { table_of_state self.new ≡ table_after (bounded_tick S.MAX) (Step tid)
             (table_of_state self.old) }
+        ensures cost { CostsAtMost S.MAX (Step tid) self.old steps.old steps.new }
     {
+        steps.tick(); // the thread
         advance(
             is_switch(self.last, tid),
             &mut self.threads,
             &mut self.writes,
             &mut self.counter,
             &mut self.renumbered,
+            steps,
         );
         self.threads.add_steps(tid, 1);
         self.last = Some(tid);
         self.weight += 1;
     }
 
+    // The same, with a count of its own in the ledger of `blank`.
+    #[inline(always)]
+    fn step_first_with<L: Ledger>(&mut self, tid: Tid, blank: Blank)
+        requires may { MayTake (StandsFor S.MAX) self.old (Step tid) }
+        requires name { blank.name ≡ L.name }
+        requires parts { blank.parts ≡ L.parts }
+        requires some { 0 < blank.parts }
+        ensures pages { HasSamePages self.old self.new }
+        ensures table { table_of_state self.new ≡ table_after (bounded_tick S.MAX) (Step tid)
+            (table_of_state self.old) }
+    {
+        let mut steps = Steps::<L>::new(blank);
+        self.step_first(tid, &mut steps);
+    }
+
     // A fill by the kernel.
     #[cold]
     #[inline(never)]
-    fn fill(&mut self, first: Word, count: u32) -> Result<(), AllocError>
+    fn fill<L: Ledger>(
+        &mut self,
+        first: Word,
+        count: u32,
+        steps: &mut Steps<L>,
+    ) -> Result<(), AllocError>
         requires { MayTake (StandsFor S.MAX) self.old (Fill first count) }
         ensures table { OnOk result (table_of_state self.new
             ≡ table_after (bounded_tick S.MAX) (Fill first count) (table_of_state self.old)) }
         ensures refused { OnErr result (table_of_state self.new ≡ table_of_state self.old) }
         ensures no_allocation { AreCovered self.old.writes first count → IsOk result }
         ensures pages { AreCovered self.old.writes first count → HasSamePages self.old self.new }
+        ensures cost { CostsAtMost S.MAX (Fill first count) self.old steps.old steps.new }
     {
+        // A look-up of each page, of which there are at most as many as words, in two tables and twice; and each stamp and mark.
+        steps.count(1 + 6 * u64::from(count));
         cover(&mut self.writes, &mut self.marks, first, count)?;
         advance(
             true, // at each fill
@@ -361,6 +394,7 @@ impl<S: Lanes> Profiler<S> {
             &mut self.writes,
             &mut self.counter,
             &mut self.renumbered,
+            steps,
         );
         let now = S::from_number(self.counter);
         fill(&mut self.writes, &mut self.marks, first, count, now);
@@ -370,7 +404,13 @@ impl<S: Lanes> Profiler<S> {
 
     // A write by the thread that runs.
     #[inline(always)]
-    fn write(&mut self, tid: Tid, first: Word, count: u32) -> Result<(), AllocError>
+    fn write<L: Ledger>(
+        &mut self,
+        tid: Tid,
+        first: Word,
+        count: u32,
+        steps: &mut Steps<L>,
+    ) -> Result<(), AllocError>
         requires { MayTake (StandsFor S.MAX) self.old (Write tid first count) }
         ensures table { OnOk result (table_of_state self.new
             ≡ table_after (bounded_tick S.MAX) (Write tid first count) (table_of_state self.old)) }
@@ -379,8 +419,10 @@ impl<S: Lanes> Profiler<S> {
             → AreCovered self.old.writes first count → IsOk result }
         ensures pages { AreCovered (pages_of self.old.live.threads tid) first count
             → AreCovered self.old.writes first count → HasSamePages self.old self.new }
+        ensures cost { CostsAtMost S.MAX (Write tid first count) self.old steps.old steps.new }
     {
         if count == 1 {
+            steps.count(11); // the thread twice and three pages, with two stamps and a mark, which are then written
             if let Some(access) = access_of(&self.threads, tid, first) {
                 if let Some(latest) = latest_of(&self.writes, &self.marks, first) {
                     self.write_known(tid, first, access, latest);
@@ -388,7 +430,7 @@ impl<S: Lanes> Profiler<S> {
                 }
             }
         }
-        self.write_anew(tid, first, count)
+        self.write_anew(tid, first, count, steps)
     }
 
     // A write of one word whose pages are there. Where the thread wrote the word last, since the counter last moved, it changes no
@@ -441,7 +483,13 @@ impl<S: Lanes> Profiler<S> {
     // A write of several words, or of one whose pages may not be there.
     #[cold]
     #[inline(never)]
-    fn write_anew(&mut self, tid: Tid, first: Word, count: u32) -> Result<(), AllocError>
+    fn write_anew<L: Ledger>(
+        &mut self,
+        tid: Tid,
+        first: Word,
+        count: u32,
+        steps: &mut Steps<L>,
+    ) -> Result<(), AllocError>
         requires { MayTake (StandsFor S.MAX) self.old (Write tid first count) }
         ensures table { OnOk result (table_of_state self.new
             ≡ table_after (bounded_tick S.MAX) (Write tid first count) (table_of_state self.old)) }
@@ -450,7 +498,11 @@ impl<S: Lanes> Profiler<S> {
             → AreCovered self.old.writes first count → IsOk result }
         ensures pages { AreCovered (pages_of self.old.live.threads tid) first count
             → AreCovered self.old.writes first count → HasSamePages self.old self.new }
+        ensures cost { steps.new ≡ steps.old + 6 + 9 * count }
     {
+        // The thread, and a look-up of each page, of which there are at most as many as words, in three tables and twice; and each
+        // stamp and mark.
+        steps.count(6 + 9 * u64::from(count));
         cover_own(&mut self.threads, tid, first, count)?;
         cover(&mut self.writes, &mut self.marks, first, count)?;
         let now = S::from_number(self.counter);
@@ -470,12 +522,19 @@ impl<S: Lanes> Profiler<S> {
     // A thread starts, with its first activation.
     #[cold]
     #[inline(never)]
-    fn start(&mut self, tid: Tid, entry: Addr) -> Result<(), AllocError>
+    fn start<L: Ledger>(
+        &mut self,
+        tid: Tid,
+        entry: Addr,
+        steps: &mut Steps<L>,
+    ) -> Result<(), AllocError>
         requires { MayTake (StandsFor S.MAX) self.old (Start tid entry) }
         ensures table { OnOk result (table_of_state self.new
             ≡ table_after (bounded_tick S.MAX) (Start tid entry) (table_of_state self.old)) }
         ensures refused { OnErr result (table_of_state self.new ≡ table_of_state self.old) }
+        ensures cost { CostsAtMost S.MAX (Start tid entry) self.old steps.old steps.new }
     {
+        steps.count(6); // the thread, which is added, reserved for, and given a frame with its start
         add_with_room(&mut self.threads, tid)?;
         advance(
             true,
@@ -483,6 +542,7 @@ impl<S: Lanes> Profiler<S> {
             &mut self.writes,
             &mut self.counter,
             &mut self.renumbered,
+            steps,
         );
         let now = S::from_number(self.counter);
         self.threads.begin(tid, now, entry, None);
@@ -493,12 +553,20 @@ impl<S: Lanes> Profiler<S> {
 
     // A call by the thread that runs. Mostly there is room for it, and the counter is not at its end.
     #[inline(always)]
-    fn call(&mut self, tid: Tid, entry: Addr, back: Addr) -> Result<(), AllocError>
+    fn call<L: Ledger>(
+        &mut self,
+        tid: Tid,
+        entry: Addr,
+        back: Addr,
+        steps: &mut Steps<L>,
+    ) -> Result<(), AllocError>
         requires { MayTake (StandsFor S.MAX) self.old (Call tid entry back) }
         ensures table { OnOk result (table_of_state self.new
             ≡ table_after (bounded_tick S.MAX) (Call tid entry back) (table_of_state self.old)) }
         ensures refused { OnErr result (table_of_state self.new ≡ table_of_state self.old) }
+        ensures cost { CostsAtMost S.MAX (Call tid entry back) self.old steps.old steps.new }
     {
+        steps.count(3); // the thread twice, and the start of its frame
         if self.counter < S::MAX && self.threads.has_room(tid) {
             self.counter += 1;
             let now = S::from_number(self.counter);
@@ -506,18 +574,26 @@ impl<S: Lanes> Profiler<S> {
             self.weight += 1;
             return Ok(());
         }
-        self.call_anew(tid, entry, back)
+        self.call_anew(tid, entry, back, steps)
     }
 
     // The same, where the stamps may be renumbered and memory may be wanted.
     #[cold]
     #[inline(never)]
-    fn call_anew(&mut self, tid: Tid, entry: Addr, back: Addr) -> Result<(), AllocError>
+    fn call_anew<L: Ledger>(
+        &mut self,
+        tid: Tid,
+        entry: Addr,
+        back: Addr,
+        steps: &mut Steps<L>,
+    ) -> Result<(), AllocError>
         requires { MayTake (StandsFor S.MAX) self.old (Call tid entry back) }
         ensures table { OnOk result (table_of_state self.new
             ≡ table_after (bounded_tick S.MAX) (Call tid entry back) (table_of_state self.old)) }
         ensures refused { OnErr result (table_of_state self.new ≡ table_of_state self.old) }
+        ensures cost { steps.new ≤ steps.old + 4 + tick_cost S.MAX self.old.counter self.old.live self.old.writes }
     {
+        steps.count(4); // the thread three times, and the start of its frame
         self.threads.reserve(tid)?;
         advance(
             true,
@@ -525,6 +601,7 @@ impl<S: Lanes> Profiler<S> {
             &mut self.writes,
             &mut self.counter,
             &mut self.renumbered,
+            steps,
         );
         let now = S::from_number(self.counter);
         self.threads.begin(tid, now, entry, Some(back));
@@ -534,7 +611,13 @@ impl<S: Lanes> Profiler<S> {
 
     // A return of the thread that runs: the calls that it ends are recorded.
     #[inline(always)]
-    fn return_to(&mut self, tid: Tid, target: Addr, done: &mut Vec<Done>) -> Result<(), AllocError>
+    fn return_to<L: Ledger>(
+        &mut self,
+        tid: Tid,
+        target: Addr,
+        done: &mut Vec<Done>,
+        steps: &mut Steps<L>,
+    ) -> Result<(), AllocError>
         requires { MayTake (StandsFor S.MAX) self.old (Ret tid target) }
         ensures table { OnOk result (table_of_state self.new
             ≡ table_after (bounded_tick S.MAX) (Ret tid target) (table_of_state self.old)) }
@@ -546,21 +629,23 @@ impl<S: Lanes> Profiler<S> {
             (map (λ (c : CountedCall). c.back) (calls_of self.old.live.threads tid).list)
             ≤ vec_capacity done.old → IsOk result }
         ensures pages { HasSamePages self.old self.new }
+        ensures cost { CostsAtMost S.MAX (Ret tid target) self.old steps.old steps.new }
     {
         if done.len() < done.capacity() {
-            self.return_with_room(tid, target, done)
+            self.return_with_room(tid, target, done, steps)
         } else {
-            self.return_full(tid, target, done)
+            self.return_full(tid, target, done, steps)
         }
     }
 
     // The same, where the list has room for a record. A return mostly ends one call, and then looks the thread up once.
     #[inline(always)]
-    fn return_with_room(
+    fn return_with_room<L: Ledger>(
         &mut self,
         tid: Tid,
         target: Addr,
         done: &mut Vec<Done>,
+        steps: &mut Steps<L>,
     ) -> Result<(), AllocError>
         requires may { MayTake (StandsFor S.MAX) self.old (Ret tid target) }
         requires room { vec_len done.old + 1 ≤ vec_capacity done.old }
@@ -574,13 +659,15 @@ impl<S: Lanes> Profiler<S> {
             (map (λ (c : CountedCall). c.back) (calls_of self.old.live.threads tid).list)
             ≤ vec_capacity done.old → IsOk result }
         ensures pages { HasSamePages self.old self.new }
+        ensures cost { CostsAtMost S.MAX (Ret tid target) self.old steps.old steps.new }
     {
+        steps.count(3); // the thread, its innermost call, and that call's frame
         match self.return_one(tid, target) {
             Some(ended) => {
                 done.push(ended).unwrap();
                 Ok(())
             }
-            None => self.return_full(tid, target, done),
+            None => self.return_full(tid, target, done, steps),
         }
     }
 
@@ -611,11 +698,12 @@ impl<S: Lanes> Profiler<S> {
     // The same, where the list may have none, or the return ends several calls or none.
     #[cold]
     #[inline(never)]
-    fn return_full(
+    fn return_full<L: Ledger>(
         &mut self,
         tid: Tid,
         target: Addr,
         done: &mut Vec<Done>,
+        steps: &mut Steps<L>,
     ) -> Result<(), AllocError>
         requires { MayTake (StandsFor S.MAX) self.old (Ret tid target) }
         ensures table { OnOk result (table_of_state self.new
@@ -628,10 +716,20 @@ impl<S: Lanes> Profiler<S> {
             (map (λ (c : CountedCall). c.back) (calls_of self.old.live.threads tid).list)
             ≤ vec_capacity done.old → IsOk result }
         ensures pages { HasSamePages self.old self.new }
+        ensures cost { steps.new ≤ steps.old + 2 + 4 * calls_seen self.old.live tid target }
     {
         let ended = self.threads.ending(tid, target);
+        // The thread, and the calls that are looked at, twice where the list has room.
+        let seen = if ended == 0 {
+            self.threads.frame_count()
+        } else {
+            ended
+        };
+        steps.count(2);
+        steps.count(seen as u64);
+        steps.count(seen as u64);
         done.reserve(ended)?;
-        end_calls(&mut self.threads, tid, ended, done);
+        end_calls(&mut self.threads, tid, ended, done, steps);
         self.weight += 1;
         Ok(())
     }
@@ -639,7 +737,12 @@ impl<S: Lanes> Profiler<S> {
     // The end of a thread: all its calls are recorded.
     #[cold]
     #[inline(never)]
-    fn end(&mut self, tid: Tid, done: &mut Vec<Done>) -> Result<(), AllocError>
+    fn end<L: Ledger>(
+        &mut self,
+        tid: Tid,
+        done: &mut Vec<Done>,
+        steps: &mut Steps<L>,
+    ) -> Result<(), AllocError>
         requires { MayTake (StandsFor S.MAX) self.old (End tid) }
         ensures table { OnOk result (table_of_state self.new
             ≡ table_after (bounded_tick S.MAX) (End tid) (table_of_state self.old)) }
@@ -647,10 +750,12 @@ impl<S: Lanes> Profiler<S> {
             ≡ done.old.items ++ finished (End tid) (table_of_state self.old)) }
         ensures refused { OnErr result (table_of_state self.new ≡ table_of_state self.old) }
         ensures kept { OnErr result (done.new.items ≡ done.old.items) }
+        ensures cost { CostsAtMost S.MAX (End tid) self.old steps.old steps.new }
     {
+        steps.count(2); // the thread, before its calls end and when it goes
         let ended = self.threads.frames(tid).depth();
         done.reserve(ended)?;
-        end_calls(&mut self.threads, tid, ended, done);
+        end_calls(&mut self.threads, tid, ended, done, steps);
         self.threads.remove(tid);
         self.weight += 1;
         Ok(())
@@ -658,7 +763,13 @@ impl<S: Lanes> Profiler<S> {
 
     // A read by the thread that runs.
     #[inline(always)]
-    fn read(&mut self, tid: Tid, first: Word, count: u32) -> Result<(), AllocError>
+    fn read<L: Ledger>(
+        &mut self,
+        tid: Tid,
+        first: Word,
+        count: u32,
+        steps: &mut Steps<L>,
+    ) -> Result<(), AllocError>
         requires { MayTake (StandsFor S.MAX) self.old (Read tid first count) }
         ensures table { OnOk result (table_of_state self.new
             ≡ table_after (bounded_tick S.MAX) (Read tid first count) (table_of_state self.old)) }
@@ -667,54 +778,76 @@ impl<S: Lanes> Profiler<S> {
             → IsOk result }
         ensures pages { AreCovered (pages_of self.old.live.threads tid) first count
             → HasSamePages self.old self.new }
+        ensures cost { CostsAtMost S.MAX (Read tid first count) self.old steps.old steps.new }
     {
         if count == 1 {
+            steps.count(3); // the thread, and a page with the stamp
             if let Some(access) = access_of(&self.threads, tid, first) {
-                self.read_known(tid, first, access);
+                self.read_known(tid, first, access, steps);
                 return Ok(());
             }
         }
-        self.read_anew(tid, first, count)
+        self.read_anew(tid, first, count, steps)
     }
 
     // A read of one word whose page the thread has. Where the counter has not moved since the thread's access, it changes no
     // stamp and no sum.
     #[inline(always)]
-    fn read_known(&mut self, tid: Tid, w: Word, access: Access<S>)
+    fn read_known<L: Ledger>(&mut self, tid: Tid, w: Word, access: Access<S>, steps: &mut Steps<L>)
         requires may { MayTake (StandsFor S.MAX) self.old (Read tid w 1) }
         requires place { HasPlace (pages_of self.old.live.threads tid) w access.place }
         requires own { S.number_of access.stamp ≡ stamp_at (pages_of self.old.live.threads tid) w }
         ensures table { table_of_state self.new
             ≡ table_after (bounded_tick S.MAX) (Read tid w 1) (table_of_state self.old) }
         ensures pages { HasSamePages self.old self.new }
+        ensures cost { IsReadWithin 11 self.old.live tid w 1 steps.old steps.new }
     {
         if access.stamp.number() == self.counter {
             self.weight += 2;
         } else {
-            self.read_old(tid, w, access);
+            self.read_old(tid, w, access, steps);
         }
+    }
+
+    // The same, with a count of its own in the ledger of `blank`.
+    #[inline(always)]
+    fn read_known_with<L: Ledger>(&mut self, tid: Tid, w: Word, access: Access<S>, blank: Blank)
+        requires may { MayTake (StandsFor S.MAX) self.old (Read tid w 1) }
+        requires place { HasPlace (pages_of self.old.live.threads tid) w access.place }
+        requires own { S.number_of access.stamp ≡ stamp_at (pages_of self.old.live.threads tid) w }
+        requires name { blank.name ≡ L.name }
+        requires parts { blank.parts ≡ L.parts }
+        requires some { 0 < blank.parts }
+        ensures table { table_of_state self.new
+            ≡ table_after (bounded_tick S.MAX) (Read tid w 1) (table_of_state self.old) }
+        ensures pages { HasSamePages self.old self.new }
+    {
+        let mut steps = Steps::<L>::new(blank);
+        self.read_known(tid, w, access, &mut steps);
     }
 
     // The same, where the counter has moved.
     #[inline(never)]
-    fn read_old(&mut self, tid: Tid, w: Word, access: Access<S>)
+    fn read_old<L: Ledger>(&mut self, tid: Tid, w: Word, access: Access<S>, steps: &mut Steps<L>)
         requires may { MayTake (StandsFor S.MAX) self.old (Read tid w 1) }
         requires place { HasPlace (pages_of self.old.live.threads tid) w access.place }
         requires own { S.number_of access.stamp ≡ stamp_at (pages_of self.old.live.threads tid) w }
         ensures table { table_of_state self.new
             ≡ table_after (bounded_tick S.MAX) (Read tid w 1) (table_of_state self.old) }
         ensures pages { HasSamePages self.old self.new }
+        ensures cost { IsReadWithin 11 self.old.live tid w 1 steps.old steps.new }
     {
+        steps.count(2); // a page, with the stamp
         if access.stamp.number() < self.writes.get(w).number() {
-            self.read_foreign(tid, w, access);
+            self.read_foreign(tid, w, access, steps);
         } else {
-            self.read_own(tid, w, access);
+            self.read_own(tid, w, access, steps);
         }
     }
 
     // The same, where no one else wrote the word since the thread's access.
     #[inline(always)]
-    fn read_own(&mut self, tid: Tid, w: Word, access: Access<S>)
+    fn read_own<L: Ledger>(&mut self, tid: Tid, w: Word, access: Access<S>, steps: &mut Steps<L>)
         requires may { MayTake (StandsFor S.MAX) self.old (Read tid w 1) }
         requires place { HasPlace (pages_of self.old.live.threads tid) w access.place }
         requires own { S.number_of access.stamp ≡ stamp_at (pages_of self.old.live.threads tid) w }
@@ -722,23 +855,32 @@ impl<S: Lanes> Profiler<S> {
         ensures table { table_of_state self.new
             ≡ table_after (bounded_tick S.MAX) (Read tid w 1) (table_of_state self.old) }
         ensures pages { HasSamePages self.old self.new }
+        ensures cost { IsReadWithin 4 self.old.live tid w 1 steps.old steps.new }
     {
         self.weight += 2;
         let now = S::from_number(self.counter);
-        read_kept(&mut self.threads, tid, w, access, now);
+        read_kept(&mut self.threads, tid, w, access, now, steps);
     }
 
     // The same, where another thread or the kernel may have written the word since.
     #[cold]
     #[inline(never)]
-    fn read_foreign(&mut self, tid: Tid, w: Word, access: Access<S>)
+    fn read_foreign<L: Ledger>(
+        &mut self,
+        tid: Tid,
+        w: Word,
+        access: Access<S>,
+        steps: &mut Steps<L>,
+    )
         requires may { MayTake (StandsFor S.MAX) self.old (Read tid w 1) }
         requires place { HasPlace (pages_of self.old.live.threads tid) w access.place }
         requires own { S.number_of access.stamp ≡ stamp_at (pages_of self.old.live.threads tid) w }
         ensures table { table_of_state self.new
             ≡ table_after (bounded_tick S.MAX) (Read tid w 1) (table_of_state self.old) }
         ensures pages { HasSamePages self.old self.new }
+        ensures cost { IsReadWithin 9 self.old.live tid w 1 steps.old steps.new }
     {
+        steps.tick(); // the thread
         let now = S::from_number(self.counter);
         let found = read_at(
             &mut self.threads,
@@ -748,6 +890,7 @@ impl<S: Lanes> Profiler<S> {
             &self.writes,
             &self.marks,
             now,
+            steps,
         );
         self.threads.add_found(tid, found.thread, found.kernel);
         self.weight += 2;
@@ -756,7 +899,13 @@ impl<S: Lanes> Profiler<S> {
     // A read of several words, or of one whose page the thread may not have.
     #[cold]
     #[inline(never)]
-    fn read_anew(&mut self, tid: Tid, first: Word, count: u32) -> Result<(), AllocError>
+    fn read_anew<L: Ledger>(
+        &mut self,
+        tid: Tid,
+        first: Word,
+        count: u32,
+        steps: &mut Steps<L>,
+    ) -> Result<(), AllocError>
         requires { MayTake (StandsFor S.MAX) self.old (Read tid first count) }
         ensures table { OnOk result (table_of_state self.new
             ≡ table_after (bounded_tick S.MAX) (Read tid first count) (table_of_state self.old)) }
@@ -765,7 +914,10 @@ impl<S: Lanes> Profiler<S> {
             → IsOk result }
         ensures pages { AreCovered (pages_of self.old.live.threads tid) first count
             → HasSamePages self.old self.new }
+        ensures cost { IsReadWithin (4 + 24 * count) self.old.live tid first count steps.old steps.new }
     {
+        // The thread, and a look-up of each page, of which there are at most as many as words.
+        steps.count(4 + u64::from(count));
         cover_own(&mut self.threads, tid, first, count)?;
         let now = S::from_number(self.counter);
         let found = read(
@@ -777,6 +929,7 @@ impl<S: Lanes> Profiler<S> {
             &self.marks,
             &self.zeros,
             now,
+            steps,
         );
         self.threads.add_found(tid, found.thread, found.kernel);
         self.weight += 1 + u64::from(count);
@@ -803,7 +956,12 @@ impl<S: Lanes> Profiler<S> {
 
     // Takes an event that is not too deep.
     #[inline(always)]
-    fn take(&mut self, e: Event, done: &mut Vec<Done>) -> Result<(), AllocError>
+    fn take<L: Ledger>(
+        &mut self,
+        e: Event,
+        done: &mut Vec<Done>,
+        steps: &mut Steps<L>,
+    ) -> Result<(), AllocError>
         requires { MayTake (StandsFor S.MAX) self.old e }
         ensures table { OnOk result (table_of_state self.new
             ≡ table_after (bounded_tick S.MAX) e (table_of_state self.old)) }
@@ -815,19 +973,20 @@ impl<S: Lanes> Profiler<S> {
             (vec_capacity done.old) → IsOk result }
         ensures pages { DoesNotAllocate e (table_of_state self.old) (vec_len done.old)
             (vec_capacity done.old) → HasSamePages self.old self.new }
+        ensures cost { CostsAtMost S.MAX e self.old steps.old steps.new }
     {
         match e {
             Event::Step { tid } => {
-                self.step(tid);
+                self.step(tid, steps);
                 Ok(())
             }
-            Event::Read { tid, first, count } => self.read(tid, first, count),
-            Event::Write { tid, first, count } => self.write(tid, first, count),
-            Event::Fill { first, count } => self.fill(first, count),
-            Event::Call { tid, entry, back } => self.call(tid, entry, back),
-            Event::Ret { tid, target } => self.return_to(tid, target, done),
-            Event::Start { tid, entry } => self.start(tid, entry),
-            Event::End { tid } => self.end(tid, done),
+            Event::Read { tid, first, count } => self.read(tid, first, count, steps),
+            Event::Write { tid, first, count } => self.write(tid, first, count, steps),
+            Event::Fill { first, count } => self.fill(first, count, steps),
+            Event::Call { tid, entry, back } => self.call(tid, entry, back, steps),
+            Event::Ret { tid, target } => self.return_to(tid, target, done, steps),
+            Event::Start { tid, entry } => self.start(tid, entry, steps),
+            Event::End { tid } => self.end(tid, done, steps),
         }
     }
 
@@ -854,12 +1013,77 @@ impl<S: Lanes> Profiler<S> {
         ensures pages { DoesNotAllocate e (table_of_state self.old) (vec_len done.old)
             (vec_capacity done.old) → HasSamePages self.old self.new }
     {
+        self.apply_with::<Brand>(e, done, Blank::new(1))
+    }
+
+    // The same, with a count of its own in the ledger of `blank`.
+    #[inline(always)]
+    fn apply_with<L: Ledger>(
+        &mut self,
+        e: Event,
+        done: &mut Vec<Done>,
+        blank: Blank,
+    ) -> Result<(), ApplyError>
+        requires may { MayTake (StandsFor S.MAX) self.old e }
+        requires name { blank.name ≡ L.name }
+        requires parts { blank.parts ≡ L.parts }
+        requires some { 0 < blank.parts }
+        ensures table { OnOk result (table_of_state self.new
+            ≡ table_after (bounded_tick S.MAX) e (table_of_state self.old)) }
+        ensures records { OnOk result (done.new.items
+            ≡ done.old.items ++ finished e (table_of_state self.old)) }
+        ensures stands { (past : List Event) → StandsFor S.MAX self.old past
+            → OnOk result (IsTaken S.MAX e past self.new done.old.items done.new.items) }
+        ensures deep { (past : List Event) → StandsFor S.MAX self.old past
+            → is_too_deep S.MAX e past ≡ true → result ≡ Err (TooDeep (pending past)) }
+        ensures not_deep { (past : List Event) → StandsFor S.MAX self.old past
+            → is_too_deep S.MAX e past ≡ false → IfErr result (λ error. error ≡ Memory) }
+        ensures refused { OnErr result (table_of_state self.new ≡ table_of_state self.old) }
+        ensures kept { OnErr result (done.new.items ≡ done.old.items) }
+        ensures no_allocation { DoesNotAllocate e (table_of_state self.old) (vec_len done.old)
+            (vec_capacity done.old) → IsOk result }
+        ensures pages { DoesNotAllocate e (table_of_state self.old) (vec_len done.old)
+            (vec_capacity done.old) → HasSamePages self.old self.new }
+    {
+        let mut steps = Steps::<L>::new(blank);
+        self.apply_counted(e, done, &mut steps)
+    }
+
+    /// The same, and counts what it does: each look-up of a thread or of a page, each comparison of the stamps of frames and of the
+    /// return addresses of calls, and each stamp and mark that is read or written. A count costs nothing at run time. `apply` is
+    /// this call, with a count that no one sees.
+    #[inline(always)]
+    pub fn apply_counted<L: Ledger>(
+        &mut self,
+        e: Event,
+        done: &mut Vec<Done>,
+        steps: &mut Steps<L>,
+    ) -> Result<(), ApplyError>
+        requires { MayTake (StandsFor S.MAX) self.old e }
+        ensures table { OnOk result (table_of_state self.new
+            ≡ table_after (bounded_tick S.MAX) e (table_of_state self.old)) }
+        ensures records { OnOk result (done.new.items
+            ≡ done.old.items ++ finished e (table_of_state self.old)) }
+        ensures stands { (past : List Event) → StandsFor S.MAX self.old past
+            → OnOk result (IsTaken S.MAX e past self.new done.old.items done.new.items) }
+        ensures deep { (past : List Event) → StandsFor S.MAX self.old past
+            → is_too_deep S.MAX e past ≡ true → result ≡ Err (TooDeep (pending past)) }
+        ensures not_deep { (past : List Event) → StandsFor S.MAX self.old past
+            → is_too_deep S.MAX e past ≡ false → IfErr result (λ error. error ≡ Memory) }
+        ensures refused { OnErr result (table_of_state self.new ≡ table_of_state self.old) }
+        ensures kept { OnErr result (done.new.items ≡ done.old.items) }
+        ensures no_allocation { DoesNotAllocate e (table_of_state self.old) (vec_len done.old)
+            (vec_capacity done.old) → IsOk result }
+        ensures pages { DoesNotAllocate e (table_of_state self.old) (vec_len done.old)
+            (vec_capacity done.old) → HasSamePages self.old self.new }
+        ensures cost { CostsAtMost S.MAX e self.old steps.old steps.new }
+    {
         if self.is_too_deep(&e) {
             return Err(ApplyError::TooDeep {
                 pending: self.pending(),
             });
         }
-        self.take(e, done)?;
+        self.take(e, done, steps)?;
         Ok(())
     }
 }

@@ -1,5 +1,5 @@
 //! A read of words: what it changes in the frames and the stamps of the thread that reads.
-ghost use Rattle.std.specs.Prelude.{◌≡◌, ◌≤◌, ◌<◌, ◌+◌, ◌%◌, ◌^◌, ◌∷◌, [], ℕ, All, IfSome, count_by, is_some, length, pos, true};
+ghost use Rattle.std.specs.Prelude.{◌≡◌, ◌≤◌, ◌<◌, ◌+◌, ◌*◌, ◌%◌, ◌^◌, ◌∷◌, [], ℕ, All, IfSome, count_by, is_some, length, pos, true};
 ghost use Rattle.std.specs.List.{range_with_len};
 ghost use Rattle.guest_words.specs.ByThread.{value_of};
 ghost use Rattle.shadow_pages.specs.Pages.{AreCovered, HasPlace, covers, stamp_at};
@@ -8,15 +8,16 @@ ghost use Rattle.stamp_lanes.specs.Plain.{is_by_kernel, is_by_thread};
 ghost use Rattle.stamp_renumber.specs.Threads.{frames_of, pages_of};
 ghost use Rattle.stamp_table.specs.Allows.{AreWithin};
 ghost use Rattle.stamp_table.specs.Frames.{gain, negated};
-ghost use Rattle.shadow_core.specs.Private.Reading.{AreSmall, IsRead, places_at};
+ghost use Rattle.shadow_core.specs.Private.Reading.{AreSmall, IsRead, IsReadWithin, places_at};
 
 use crate::rows::{ZeroRows, read_page, row_of};
 use guest_words::{Tid, Word};
 use shadow_pages::Shadow;
-use shadow_stack::Sums;
+use shadow_stack::{Steps, Sums};
 use stamp_lanes::{Bulk, Lanes};
 use stamp_renumber::Threads;
 use stamps::Stamp;
+use std::sync::ledger::Ledger;
 
 // What a read of a word counts.
 fn gain_of<S: Stamp>(own: S, write: S) -> Sums
@@ -66,61 +67,76 @@ pub(crate) fn access_of<S: Lanes>(threads: &Threads<S>, tid: Tid, w: Word) -> Op
 
 // A read of one word, by its access and by the stamp of the latest write.
 #[inline(always)]
-fn read_stamped<S: Lanes>(
+fn read_stamped<S: Lanes, L: Ledger>(
     threads: &mut Threads<S>,
     tid: Tid,
     w: Word,
     access: Access<S>,
     write: S,
     stamp: S,
+    steps: &mut Steps<L>,
 )
     requires lives { is_some (value_of threads.old.threads tid) ≡ true }
     requires some { 1 ≤ length (frames_of threads.old.threads tid) }
     requires place { HasPlace (pages_of threads.old.threads tid) w access.place }
     requires sums { AreWithin (2 ^ 62 + 2 ^ 31) (frames_of threads.old.threads tid) }
     requires own { S.number_of access.stamp ≡ stamp_at (pages_of threads.old.threads tid) w }
-    ensures { (writes marks : ℕ → ℕ) → S.number_of write ≡ writes w
+    ensures read { (writes marks : ℕ → ℕ) → S.number_of write ≡ writes w
         → IsRead threads.old threads.new tid writes marks w 1 (S.number_of stamp) }
+    ensures cost { IsReadWithin 4 threads.old tid w 1 steps.old steps.new }
 {
     let Access { place, stamp: own } = access;
     let gain = gain_of(own, write);
-    threads.read_word(tid, place, w, own, gain, below_zero(gain), stamp);
+    steps.count(2); // the thread, and the stamp
+    threads.read_word(tid, place, w, own, gain, below_zero(gain), stamp, steps);
 }
 
 // A read of one word.
 #[inline(always)]
-fn read_word<S: Lanes>(threads: &mut Threads<S>, tid: Tid, w: Word, writes: &Shadow<S>, stamp: S)
+fn read_word<S: Lanes, L: Ledger>(
+    threads: &mut Threads<S>,
+    tid: Tid,
+    w: Word,
+    writes: &Shadow<S>,
+    stamp: S,
+    steps: &mut Steps<L>,
+)
     requires lives { is_some (value_of threads.old.threads tid) ≡ true }
     requires some { 1 ≤ length (frames_of threads.old.threads tid) }
     requires covered { covers (pages_of threads.old.threads tid) w ≡ true }
     requires sums { AreWithin (2 ^ 62 + 2 ^ 31) (frames_of threads.old.threads tid) }
-    ensures { (marks : ℕ → ℕ) → IsRead threads.old threads.new tid
+    ensures read { (marks : ℕ → ℕ) → IsRead threads.old threads.new tid
         (stamp_at writes.now.pages) marks w 1 (S.number_of stamp) }
+    ensures cost { IsReadWithin 9 threads.old tid w 1 steps.old steps.new }
 {
+    steps.count(5); // the thread, and two pages with their stamps
     let access = access_of(threads, tid, w).unwrap();
-    read_stamped(threads, tid, w, access, writes.get(w), stamp);
+    read_stamped(threads, tid, w, access, writes.get(w), stamp, steps);
 }
 
 /// A read of one word that no one else wrote since the thread's access, by that access.
 #[inline(always)]
-pub(crate) fn read_kept<S: Lanes>(
+pub(crate) fn read_kept<S: Lanes, L: Ledger>(
     threads: &mut Threads<S>,
     tid: Tid,
     w: Word,
     access: Access<S>,
     stamp: S,
+    steps: &mut Steps<L>,
 )
     requires lives { is_some (value_of threads.old.threads tid) ≡ true }
     requires some { 1 ≤ length (frames_of threads.old.threads tid) }
     requires place { HasPlace (pages_of threads.old.threads tid) w access.place }
     requires sums { AreWithin (2 ^ 62 + 2 ^ 31) (frames_of threads.old.threads tid) }
     requires own { S.number_of access.stamp ≡ stamp_at (pages_of threads.old.threads tid) w }
-    ensures { (writes marks : ℕ → ℕ) → writes w ≤ S.number_of access.stamp
+    ensures read { (writes marks : ℕ → ℕ) → writes w ≤ S.number_of access.stamp
         → IsRead threads.old threads.new tid writes marks w 1 (S.number_of stamp) }
+    ensures cost { IsReadWithin 4 threads.old tid w 1 steps.old steps.new }
 {
     let Access { place, stamp: own } = access;
     let by = Sums { plain: 1, bare: 1 };
-    threads.read_word(tid, place, w, own, by, below_zero(by), stamp);
+    steps.count(2); // the thread, and the stamp
+    threads.read_word(tid, place, w, own, by, below_zero(by), stamp, steps);
 }
 
 // The word `i` places on.
@@ -132,24 +148,26 @@ fn word_at(first: Word, i: u32) -> Word
 }
 
 // A read of words, one after the other.
-fn read_words<S: Lanes>(
+fn read_words<S: Lanes, L: Ledger>(
     threads: &mut Threads<S>,
     tid: Tid,
     first: Word,
     count: u32,
     writes: &Shadow<S>,
     stamp: S,
+    steps: &mut Steps<L>,
 )
     requires end { first + count ≤ 2 ^ 30 }
     requires lives { is_some (value_of threads.old.threads tid) ≡ true }
     requires some { 1 ≤ length (frames_of threads.old.threads tid) }
     requires covered { AreCovered (pages_of threads.old.threads tid) first count }
     requires sums { AreWithin (2 ^ 62 + 2 ^ 30) (frames_of threads.old.threads tid) }
-    ensures { (marks : ℕ → ℕ) → IsRead threads.old threads.new tid
+    ensures read { (marks : ℕ → ℕ) → IsRead threads.old threads.new tid
         (stamp_at writes.now.pages) marks first count (S.number_of stamp) }
+    ensures cost { IsReadWithin (9 * count) threads.old tid first count steps.old steps.new }
 {
     for i in 0..count {
-        read_word(threads, tid, word_at(first, i), writes, stamp);
+        read_word(threads, tid, word_at(first, i), writes, stamp, steps);
     }
 }
 
@@ -171,7 +189,7 @@ fn sums_of_bulk(bulk: Bulk) -> Sums
 }
 
 // A read of words of one page: all at once where none is old.
-fn read_part<S: Lanes>(
+fn read_part<S: Lanes, L: Ledger>(
     threads: &mut Threads<S>,
     tid: Tid,
     first: Word,
@@ -180,6 +198,7 @@ fn read_part<S: Lanes>(
     marks: &Shadow<u8>,
     zeros: &ZeroRows<S>,
     stamp: S,
+    steps: &mut Steps<L>,
 ) -> Foreign
     requires some { 1 ≤ count }
     requires end { first + count ≤ 2 ^ 30 }
@@ -197,7 +216,10 @@ fn read_part<S: Lanes>(
     ensures kernel { result.kernel ≡ count_by is_by_kernel
         (places_at (stamp_at (pages_of threads.old.threads tid)) (stamp_at writes.now.pages)
         (stamp_at marks.now.pages) (range_with_len first count)) }
+    ensures cost { IsReadWithin (23 * count) threads.old tid first count steps.old steps.new }
 {
+    // The thread four times, the pages five times, and the innermost start; and of each word its stamps and its mark.
+    steps.count(10 + 4 * u64::from(count));
     let write = row_of(writes, first, count, zeros.stamps());
     let mark = row_of(marks, first, count, zeros.marks());
     let top = threads.frames(tid).depth() - 1;
@@ -206,7 +228,7 @@ fn read_part<S: Lanes>(
     if bulk.old == 0 {
         threads.add_sum(tid, top, sums_of_bulk(bulk));
     } else {
-        read_words(threads, tid, first, count, writes, stamp);
+        read_words(threads, tid, first, count, writes, stamp, steps);
     }
     Foreign {
         thread: u64::from(bulk.thread),
@@ -243,7 +265,7 @@ fn foreign_word<S: Stamp>(own: S, write: S, marks: &Shadow<u8>, w: Word) -> Fore
 
 /// A read of one word, with what it counts, by the thread's access.
 #[inline(always)]
-pub(crate) fn read_at<S: Lanes>(
+pub(crate) fn read_at<S: Lanes, L: Ledger>(
     threads: &mut Threads<S>,
     tid: Tid,
     w: Word,
@@ -251,6 +273,7 @@ pub(crate) fn read_at<S: Lanes>(
     writes: &Shadow<S>,
     marks: &Shadow<u8>,
     stamp: S,
+    steps: &mut Steps<L>,
 ) -> Foreign
     requires lives { is_some (value_of threads.old.threads tid) ≡ true }
     requires some { 1 ≤ length (frames_of threads.old.threads tid) }
@@ -265,18 +288,20 @@ pub(crate) fn read_at<S: Lanes>(
     ensures kernel { result.kernel ≡ count_by is_by_kernel
         (places_at (stamp_at (pages_of threads.old.threads tid)) (stamp_at writes.now.pages)
         (stamp_at marks.now.pages) (range_with_len w 1)) }
+    ensures cost { IsReadWithin 8 threads.old tid w 1 steps.old steps.new }
 {
+    steps.count(4); // two pages, with a stamp and a mark
     let write = writes.get(w);
     if access.stamp.number() < write.number() {
-        read_foreign(threads, tid, w, access, write, marks, stamp)
+        read_foreign(threads, tid, w, access, write, marks, stamp, steps)
     } else {
-        read_found(threads, tid, w, access, write, marks, stamp)
+        read_found(threads, tid, w, access, write, marks, stamp, steps)
     }
 }
 
 // The same, by the stamp of the latest write too.
 #[inline(always)]
-fn read_found<S: Lanes>(
+fn read_found<S: Lanes, L: Ledger>(
     threads: &mut Threads<S>,
     tid: Tid,
     w: Word,
@@ -284,6 +309,7 @@ fn read_found<S: Lanes>(
     write: S,
     marks: &Shadow<u8>,
     stamp: S,
+    steps: &mut Steps<L>,
 ) -> Foreign
     requires lives { is_some (value_of threads.old.threads tid) ≡ true }
     requires some { 1 ≤ length (frames_of threads.old.threads tid) }
@@ -298,16 +324,17 @@ fn read_found<S: Lanes>(
     ensures kernel { (writes : ℕ → ℕ) → S.number_of write ≡ writes w
         → result.kernel ≡ count_by is_by_kernel (places_at (stamp_at (pages_of threads.old.threads tid)) writes
         (stamp_at marks.now.pages) (range_with_len w 1)) }
+    ensures cost { IsReadWithin 4 threads.old tid w 1 steps.old steps.new }
 {
     let found = foreign_word(access.stamp, write, marks, w);
-    read_stamped(threads, tid, w, access, write, stamp);
+    read_stamped(threads, tid, w, access, write, stamp, steps);
     found
 }
 
 // The same, where another thread or the kernel may have written the word since.
 #[cold]
 #[inline(never)]
-fn read_foreign<S: Lanes>(
+fn read_foreign<S: Lanes, L: Ledger>(
     threads: &mut Threads<S>,
     tid: Tid,
     w: Word,
@@ -315,6 +342,7 @@ fn read_foreign<S: Lanes>(
     write: S,
     marks: &Shadow<u8>,
     stamp: S,
+    steps: &mut Steps<L>,
 ) -> Foreign
     requires lives { is_some (value_of threads.old.threads tid) ≡ true }
     requires some { 1 ≤ length (frames_of threads.old.threads tid) }
@@ -329,19 +357,21 @@ fn read_foreign<S: Lanes>(
     ensures kernel { (writes : ℕ → ℕ) → S.number_of write ≡ writes w
         → result.kernel ≡ count_by is_by_kernel (places_at (stamp_at (pages_of threads.old.threads tid)) writes
         (stamp_at marks.now.pages) (range_with_len w 1)) }
+    ensures cost { IsReadWithin 4 threads.old tid w 1 steps.old steps.new }
 {
-    read_found(threads, tid, w, access, write, marks, stamp)
+    read_found(threads, tid, w, access, write, marks, stamp, steps)
 }
 
 // A read of one word, with what it counts.
 #[inline(always)]
-fn read_one<S: Lanes>(
+fn read_one<S: Lanes, L: Ledger>(
     threads: &mut Threads<S>,
     tid: Tid,
     w: Word,
     writes: &Shadow<S>,
     marks: &Shadow<u8>,
     stamp: S,
+    steps: &mut Steps<L>,
 ) -> Foreign
     requires lives { is_some (value_of threads.old.threads tid) ≡ true }
     requires some { 1 ≤ length (frames_of threads.old.threads tid) }
@@ -355,9 +385,11 @@ fn read_one<S: Lanes>(
     ensures kernel { result.kernel ≡ count_by is_by_kernel
         (places_at (stamp_at (pages_of threads.old.threads tid)) (stamp_at writes.now.pages)
         (stamp_at marks.now.pages) (range_with_len w 1)) }
+    ensures cost { IsReadWithin 11 threads.old tid w 1 steps.old steps.new }
 {
+    steps.count(3); // the thread, and a page with the stamp
     let access = access_of(threads, tid, w).unwrap();
-    read_at(threads, tid, w, access, writes, marks, stamp)
+    read_at(threads, tid, w, access, writes, marks, stamp, steps)
 }
 
 // How many of the words that are left lie in the page of the next one.
@@ -373,7 +405,7 @@ fn part_size(at: Word, left: u32) -> u32
 /// A read of words by the thread. Its frames are those after the reads of the words in order, by the stamps from
 /// before the call, and each of the words gets the stamp. It does not allocate.
 #[inline(always)]
-pub(crate) fn read<S: Lanes>(
+pub(crate) fn read<S: Lanes, L: Ledger>(
     threads: &mut Threads<S>,
     tid: Tid,
     first: Word,
@@ -382,6 +414,7 @@ pub(crate) fn read<S: Lanes>(
     marks: &Shadow<u8>,
     zeros: &ZeroRows<S>,
     stamp: S,
+    steps: &mut Steps<L>,
 ) -> Foreign
     requires end { first + count ≤ 2 ^ 30 }
     requires lives { is_some (value_of threads.old.threads tid) ≡ true }
@@ -397,17 +430,20 @@ pub(crate) fn read<S: Lanes>(
     ensures kernel { result.kernel ≡ count_by is_by_kernel
         (places_at (stamp_at (pages_of threads.old.threads tid)) (stamp_at writes.now.pages)
         (stamp_at marks.now.pages) (range_with_len first count)) }
+    ensures cost { IsReadWithin (23 * count) threads.old tid first count steps.old steps.new }
 {
     if count == 1 {
-        return read_one(threads, tid, first, writes, marks, stamp);
+        return read_one(threads, tid, first, writes, marks, stamp, steps);
     }
-    read_parts(threads, tid, first, count, writes, marks, zeros, stamp)
+    read_parts(
+        threads, tid, first, count, writes, marks, zeros, stamp, steps,
+    )
 }
 
 // The same, page by page.
 #[cold]
 #[inline(never)]
-fn read_parts<S: Lanes>(
+fn read_parts<S: Lanes, L: Ledger>(
     threads: &mut Threads<S>,
     tid: Tid,
     first: Word,
@@ -416,6 +452,7 @@ fn read_parts<S: Lanes>(
     marks: &Shadow<u8>,
     zeros: &ZeroRows<S>,
     stamp: S,
+    steps: &mut Steps<L>,
 ) -> Foreign
     requires end { first + count ≤ 2 ^ 30 }
     requires lives { is_some (value_of threads.old.threads tid) ≡ true }
@@ -431,6 +468,7 @@ fn read_parts<S: Lanes>(
     ensures kernel { result.kernel ≡ count_by is_by_kernel
         (places_at (stamp_at (pages_of threads.old.threads tid)) (stamp_at writes.now.pages)
         (stamp_at marks.now.pages) (range_with_len first count)) }
+    ensures cost { IsReadWithin (23 * count) threads.old tid first count steps.old steps.new }
 {
     let mut found = Foreign {
         thread: 0,
@@ -440,7 +478,7 @@ fn read_parts<S: Lanes>(
     while done < count {
         let at = word_at(first, done);
         let size = part_size(at, count - done);
-        let more = read_part(threads, tid, at, size, writes, marks, zeros, stamp);
+        let more = read_part(threads, tid, at, size, writes, marks, zeros, stamp, steps);
         found.thread += more.thread;
         found.kernel += more.kernel;
         done += size;

@@ -1,5 +1,5 @@
 //! The pages, and the words by them.
-ghost use Rattle.std.specs.Prelude.{◌≡◌, ◌≢◌, ◌<◌, ◌≤◌, ◌+◌, ◌*◌, ◌/◌, ◌%◌, ◌^◌, ◌↔◌, ◌&&◌, ◌==◌, if◌then◌else◌, [], ℕ, Some, All, IfOk, IfSome, IsOk, IsTrue, OnErr, OnOk, is_some, length, map, nat_le, nat_lt, slice_index, slice_set, true};
+ghost use Rattle.std.specs.Prelude.{◌≡◌, ◌≢◌, ◌<◌, ◌≤◌, ◌+◌, ◌*◌, ◌/◌, ◌%◌, ◌^◌, ◌↔◌, ◌&&◌, ◌==◌, if◌then◌else◌, [], ℕ, Some, All, IfOk, IfSome, IsOk, IsTrue, OnErr, OnOk, is_some, length, map, nat_le, nat_lt, slice_index, slice_set, true, vec_len};
 ghost use Rattle.std.specs.Borrow.{sem};
 ghost use Rattle.shadow_pages.specs.Directory.{HasTable};
 ghost use Rattle.shadow_pages.specs.Pages.{AreCovered, AreDistinct, AreFresh, HasPlace, HasWord, HaveAll, IsFull, IsIndexed, IsLow, IsReserved, changed, covers, in_range, page_at, page_of, stamp_at, zeros};
@@ -236,6 +236,7 @@ impl<S: Stamp> Shadow<S> {
         ensures ok { IfOk result (λ v. AreFresh self.now.pages
             (map (λ p. record { number = p.number; stamps = map S.number_of p.stamps.items }) v.items) low end) }
         ensures covered { HaveAll self.now.pages low end → IsOk result }
+        ensures few { IfOk result (λ v. vec_len v + low ≤ end) }
     {
         let mut fresh = Vec::new(self.alloc);
         for number in low..end {
@@ -256,6 +257,7 @@ impl<S: Stamp> Shadow<S> {
             → IsOk result × (self.new.pages ≡ self.old.pages) }
         ensures stamps { (w : ℕ) → stamp_at self.new.pages w ≡ stamp_at self.old.pages w }
         ensures kept { (w : ℕ) → covers self.old.pages w ≡ true → covers self.new.pages w ≡ true }
+        ensures few { length self.new.pages ≤ length self.old.pages + count }
     {
         let (low, end) = page_range(first, count);
         let mut fresh = self.fresh_pages(low, end)?;
@@ -278,6 +280,7 @@ fn page_range(first: Word, count: u32) -> (u32, u32)
     ensures holds { (w : ℕ) → first ≤ w → w < first + count
         → (result.0 ≤ w / 1024) × (w / 1024 < result.1) }
     ensures meets { (n : ℕ) → result.0 ≤ n → n < result.1 → HasWord first count n }
+    ensures few { result.1 ≤ result.0 + count }
 {
     let low = first.number() >> 10;
     if count == 0 {

@@ -3,6 +3,7 @@ ghost use Rattle.std.specs.Prelude.{◌≡◌, ◌==◌, ◌≤◌, ◌<◌, ◌
 ghost use Rattle.std.specs.Option.{option_map, option_map_or};
 ghost use Rattle.trace_model.specs.Activations.{count_returned};
 ghost use Rattle.call_tracker.specs.ThreadCalls.{CountedCall};
+ghost use Rattle.shadow_stack.specs.Costs.{most_compared};
 ghost use Rattle.shadow_stack.specs.Frames.{FitsPop, FitsSums, IsLastAtMost, IsMoved, IsPopped, IsRising, added, new_frame, plus, restarted, starts_of};
 
 use crate::{Steps, Sums};
@@ -11,8 +12,8 @@ use guest_words::Addr;
 use room_stack::RoomStack;
 use stamps::Stamp;
 use std::alloc::{AllocError, Global};
-use std::marker::{Brand, Model};
-use std::sync::ledger::{Blank, Ledger};
+use std::marker::Model;
+use std::sync::ledger::Ledger;
 
 // One frame, with its call.
 #[derive(Clone, Copy)]
@@ -200,22 +201,27 @@ impl<S: Stamp> Frames<S> {
     }
 
     /// Where the innermost frame started after the stamp, adds `by` to its sums, and `back` to those of the innermost frame that
-    /// started at or before the stamp, if there is one. Else nothing changes. There is a frame.
+    /// started at or before the stamp, if there is one. Else nothing changes. There is a frame. A step is one comparison with a
+    /// start.
     #[inline(always)]
-    pub fn move_to_top(&mut self, stamp: S, by: Sums, back: Sums)
+    pub fn move_to_top<L: Ledger>(&mut self, stamp: S, by: Sums, back: Sums, steps: &mut Steps<L>)
         requires some { 1 ≤ length self.old.list }
         requires fits { (i : ℕ) → IfSome (slice_get self.old.list i) (λ f. FitsSums (plus f.sums by)) }
         requires fits_back { (i : ℕ) → IfSome (slice_get self.old.list i) (λ f. FitsSums (plus f.sums back)) }
         ensures moved { IsMoved (S.number_of stamp) by back self.old.list self.new.list }
         ensures calls { self.new.calls ≡ self.old.calls }
         ensures kept { self.old.spare ≤ self.new.spare }
+        ensures cost { (digits : ℕ) → length self.old.list < 2 ^ digits
+            → steps.new ≤ steps.old + most_compared digits (starts_of self.old.list) (S.number_of stamp) }
     {
         let top = self.depth() - 1;
+        steps.tick();
         if stamp.number() < self.start_at(top).number() {
+            steps.tick();
             if self.is_below(top, stamp) {
                 self.move_from(Some(top - 1), top, stamp, by, back);
             } else {
-                self.move_far(top, stamp, by, back);
+                self.move_far(top, stamp, by, back, steps);
             }
         }
     }
@@ -240,7 +246,14 @@ impl<S: Stamp> Frames<S> {
     // The same, where the frame is to be searched. Most often it is the one below, so this stands apart.
     #[cold]
     #[inline(never)]
-    fn move_far(&mut self, top: usize, stamp: S, by: Sums, back: Sums)
+    fn move_far<L: Ledger>(
+        &mut self,
+        top: usize,
+        stamp: S,
+        by: Sums,
+        back: Sums,
+        steps: &mut Steps<L>,
+    )
         requires top { length self.old.list ≡ top + 1 }
         requires above { S.number_of stamp < slice_index (starts_of self.old.list) top }
         requires fits { (i : ℕ) → IfSome (slice_get self.old.list i) (λ f. FitsSums (plus f.sums by)) }
@@ -248,8 +261,9 @@ impl<S: Stamp> Frames<S> {
         ensures moved { IsMoved (S.number_of stamp) by back self.old.list self.new.list }
         ensures calls { self.new.calls ≡ self.old.calls }
         ensures kept { self.old.spare ≤ self.new.spare }
+        ensures cost { (digits : ℕ) → length self.old.list < 2 ^ digits → steps.new ≤ steps.old + digits }
     {
-        let place = last_at_most(self, stamp);
+        let place = self.find(stamp, steps);
         self.move_from(place, top, stamp, by, back);
     }
 
@@ -330,22 +344,4 @@ fn first_above<S: Stamp, L: Ledger>(frames: &[Entry<S>], n: u32, steps: &mut Ste
         }
     }
     low
-}
-
-// The same search, with a count of its own in the ledger of `blank`.
-fn find_with<S: Stamp, L: Ledger>(frames: &Frames<S>, stamp: S, blank: Blank) -> Option<usize>
-    requires name { blank.name ≡ L.name }
-    requires parts { blank.parts ≡ L.parts }
-    requires some { 0 < blank.parts }
-    ensures { IsLastAtMost (starts_of frames.now.list) (S.number_of stamp) result }
-{
-    let mut steps = Steps::<L>::new(blank);
-    frames.find(stamp, &mut steps)
-}
-
-/// The innermost frame whose start is at most the stamp, for a caller that keeps no count.
-pub fn last_at_most<S: Stamp>(frames: &Frames<S>, stamp: S) -> Option<usize>
-    ensures { IsLastAtMost (starts_of frames.now.list) (S.number_of stamp) result }
-{
-    find_with::<S, Brand>(frames, stamp, Blank::new(1))
 }

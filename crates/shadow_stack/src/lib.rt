@@ -7,6 +7,6 @@ mod frames;
 mod steps;
 mod sums;
 
-pub use frames::{Frames, last_at_most};
+pub use frames::Frames;
 pub use steps::Steps;
 pub use sums::Sums;

@@ -4,7 +4,7 @@ ghost use Rattle.std.specs.Prelude.{◌≡◌, ◌+◌, ◌<◌, ℕ};
 use std::marker::Model;
 use std::sync::ledger::{Blank, Book, Ledger, Share};
 
-/// How many steps were taken. Only `tick` changes it. It stands in contracts alone: at run time nothing is counted.
+/// How many steps were taken. Only `tick` and `count` change it. It stands in contracts alone: at run time nothing is counted.
 #[derive(Drop)]
 pub struct Steps<L: Ledger> {
     book: Book<L>,
@@ -34,9 +34,18 @@ impl<L: Ledger> Steps<L> {
     }
 
     /// One step.
-    pub(crate) fn tick(&mut self)
+    #[inline(always)]
+    pub fn tick(&mut self)
         ensures { self.new ≡ self.old + 1 }
     {
         self.book.add(&mut self.share, 1);
+    }
+
+    /// Several steps at once.
+    #[inline(always)]
+    pub fn count(&mut self, steps: u64)
+        ensures { self.new ≡ self.old + steps }
+    {
+        self.book.add(&mut self.share, steps);
     }
 }

@@ -7,8 +7,9 @@ ghost use Rattle.stamp_renumber.specs.Classes.{new_start};
 ghost use Rattle.stamp_renumber.specs.Renumbered.{renewed_frames};
 
 use crate::starts::class_of;
-use shadow_stack::Frames;
+use shadow_stack::{Frames, Steps};
 use stamps::Stamp;
+use std::sync::ledger::Ledger;
 
 /// Adds the starts of the frames to those that are there. There is room for them.
 pub(crate) fn collect_starts<S: Stamp>(frames: &Frames<S>, starts: &mut Vec<S>)
@@ -23,7 +24,12 @@ pub(crate) fn collect_starts<S: Stamp>(frames: &Frames<S>, starts: &mut Vec<S>)
 }
 
 // The new starts of the frames, the outermost first. There is room for them.
-fn renewed_starts<S: Stamp>(frames: &Frames<S>, starts: &[S], renewed: &mut Vec<S>)
+fn renewed_starts<S: Stamp, L: Ledger>(
+    frames: &Frames<S>,
+    starts: &[S],
+    renewed: &mut Vec<S>,
+    steps: &mut Steps<L>,
+)
     requires sorted { IsNonDecreasingBy S.number_of starts.now }
     requires fit { 3 * length starts.now + 2 ≤ S.MAX }
     requires empty { vec_len renewed.old ≡ 0 }
@@ -32,16 +38,23 @@ fn renewed_starts<S: Stamp>(frames: &Frames<S>, starts: &[S], renewed: &mut Vec<
         ≡ map (new_start (map S.number_of starts.now)) (starts_of frames.now.list) }
     ensures rising { IsRising (starts_of frames.now.list) }
     ensures capacity { vec_capacity renewed.old ≤ vec_capacity renewed.new }
+    ensures cost { steps.new ≡ steps.old + length frames.now.list }
 {
     let _most = S::MAX;
     for i in 0..frames.depth() {
         let class = class_of(starts, frames.start_at(i));
         renewed.push(S::from_number(3 * class as u32)).unwrap();
+        steps.tick();
     }
 }
 
-/// Gives the frames their new starts. `renewed` is room to work them out in.
-pub(crate) fn renew_frames<S: Stamp>(frames: &mut Frames<S>, starts: &[S], renewed: &mut Vec<S>)
+/// Gives the frames their new starts. `renewed` is room to work them out in. A step is one start.
+pub(crate) fn renew_frames<S: Stamp, L: Ledger>(
+    frames: &mut Frames<S>,
+    starts: &[S],
+    renewed: &mut Vec<S>,
+    steps: &mut Steps<L>,
+)
     requires sorted { IsNonDecreasingBy S.number_of starts.now }
     requires fit { 3 * length starts.now + 2 ≤ S.MAX }
     requires among { All (Contains (map S.number_of starts.now)) (starts_of frames.old.list) }
@@ -50,8 +63,9 @@ pub(crate) fn renew_frames<S: Stamp>(frames: &mut Frames<S>, starts: &[S], renew
     ensures calls { frames.new.calls ≡ frames.old.calls }
     ensures spare { frames.new.spare ≡ frames.old.spare }
     ensures capacity { vec_capacity renewed.old ≤ vec_capacity renewed.new }
+    ensures cost { steps.new ≡ steps.old + length frames.old.list }
 {
     renewed.clear();
-    renewed_starts(frames, starts, renewed);
+    renewed_starts(frames, starts, renewed, steps);
     frames.renew(renewed);
 }

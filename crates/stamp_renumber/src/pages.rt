@@ -7,7 +7,9 @@ ghost use Rattle.stamp_renumber.specs.Private.Rows.{renewed_accesses, renewed_wr
 
 use crate::rows::WorkRows;
 use shadow_pages::{PAGE_WORDS, Shadow};
+use shadow_stack::Steps;
 use stamp_lanes::Lanes;
+use std::sync::ledger::Ledger;
 
 // A thread's page of access stamps. A page without write stamps was not written.
 fn renew_access_page<S: Lanes>(
@@ -51,12 +53,13 @@ fn renew_write_page<S: Lanes>(
     writes.page_mut(i).copy_from_slice(rows.renewed());
 }
 
-/// New access stamps of a thread, by the write stamps, which are still the old ones.
-pub(crate) fn renew_accesses<S: Lanes>(
+/// New access stamps of a thread, by the write stamps, which are still the old ones. A step is one stamp.
+pub(crate) fn renew_accesses<S: Lanes, L: Ledger>(
     shadow: &mut Shadow<S>,
     writes: &Shadow<S>,
     starts: &[S],
     rows: &mut WorkRows<S>,
+    steps: &mut Steps<L>,
 )
     requires sorted { IsNonDecreasingBy S.number_of starts.now }
     requires room { 3 * length starts.now + 2 ≤ S.MAX }
@@ -64,21 +67,30 @@ pub(crate) fn renew_accesses<S: Lanes>(
         ≡ new_access (map S.number_of starts.now) (stamp_at shadow.old.pages w)
         (stamp_at writes.now.pages w) }
     ensures covered { (w : ℕ) → covers shadow.new.pages w ≡ covers shadow.old.pages w }
+    ensures cost { steps.new ≡ steps.old + 1024 * length shadow.old.pages }
 {
     for i in 0..shadow.pages() {
         renew_access_page(shadow, i, writes, starts, rows);
+        steps.count(PAGE_WORDS as u64);
     }
 }
 
-/// New write stamps.
-pub(crate) fn renew_writes<S: Lanes>(writes: &mut Shadow<S>, starts: &[S], rows: &mut WorkRows<S>)
+/// New write stamps. A step is one stamp.
+pub(crate) fn renew_writes<S: Lanes, L: Ledger>(
+    writes: &mut Shadow<S>,
+    starts: &[S],
+    rows: &mut WorkRows<S>,
+    steps: &mut Steps<L>,
+)
     requires sorted { IsNonDecreasingBy S.number_of starts.now }
     requires room { 3 * length starts.now + 2 ≤ S.MAX }
     ensures stamps { (w : ℕ) → stamp_at writes.new.pages w
         ≡ new_write (map S.number_of starts.now) (stamp_at writes.old.pages w) }
     ensures covered { (w : ℕ) → covers writes.new.pages w ≡ covers writes.old.pages w }
+    ensures cost { steps.new ≡ steps.old + 1024 * length writes.old.pages }
 {
     for i in 0..writes.pages() {
         renew_write_page(writes, i, starts, rows);
+        steps.count(PAGE_WORDS as u64);
     }
 }

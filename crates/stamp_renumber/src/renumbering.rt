@@ -1,7 +1,8 @@
 //! New stamps for all threads.
-ghost use Rattle.std.specs.Prelude.{◌≡◌, ◌≤◌, ◌+◌, ◌*◌, All, Contains, length, map};
+ghost use Rattle.std.specs.Prelude.{◌≡◌, ◌≤◌, ◌+◌, ◌*◌, All, Contains, length, map, sum_by};
 ghost use Rattle.std.specs.Vec.{vec_capacity};
 ghost use Rattle.std.specs.List.Sorted.{IsNonDecreasingBy, IsPermutation};
+ghost use Rattle.stamp_renumber.specs.Costs.{stamps_of};
 ghost use Rattle.stamp_renumber.specs.Renumbered.{AreRenumbered};
 ghost use Rattle.stamp_renumber.specs.Threads.{all_starts};
 
@@ -10,7 +11,9 @@ use crate::rows::WorkRows;
 use crate::thread_stamps::ThreadStamps;
 use guest_words::{ByThread, Tid};
 use shadow_pages::Shadow;
+use shadow_stack::Steps;
 use stamp_lanes::Lanes;
+use std::sync::ledger::Ledger;
 
 // The starts of the frames of all threads. There is room for them.
 fn gather_starts<S: Lanes>(threads: &[(Tid, ThreadStamps<S>)], starts: &mut Vec<S>)
@@ -35,13 +38,14 @@ pub(crate) fn sorted_starts<S: Lanes>(threads: &[(Tid, ThreadStamps<S>)], starts
     starts.sort_unstable();
 }
 
-/// Gives all threads their new starts and access stamps. The write stamps are still the old ones.
-pub(crate) fn renumber_threads<S: Lanes>(
+/// Gives all threads their new starts and access stamps. The write stamps are still the old ones. A step is one stamp.
+pub(crate) fn renumber_threads<S: Lanes, L: Ledger>(
     threads: &mut ByThread<ThreadStamps<S>>,
     writes: &Shadow<S>,
     starts: &[S],
     renewed: &mut Vec<S>,
     rows: &mut WorkRows<S>,
+    steps: &mut Steps<L>,
 )
     requires sorted { IsNonDecreasingBy S.number_of starts.now }
     requires fit { 3 * length starts.now + 2 ≤ S.MAX }
@@ -50,10 +54,11 @@ pub(crate) fn renumber_threads<S: Lanes>(
     ensures threads { AreRenumbered (map S.number_of starts.now) writes.now.pages
         threads.old.list threads.new.list }
     ensures capacity { vec_capacity renewed.old ≤ vec_capacity renewed.new }
+    ensures cost { steps.new ≡ steps.old + sum_by (λ x. stamps_of x.1) threads.old.list }
 {
     for i in 0..threads.len() {
         let tid = threads.list()[i].0;
         let thread = threads.get_mut(tid).unwrap();
-        thread.renumber(writes, starts, renewed, rows);
+        thread.renumber(writes, starts, renewed, rows, steps);
     }
 }

@@ -3,10 +3,12 @@ ghost use Rattle.std.specs.Prelude.{◌≡◌, ◌==◌, ◌≤◌, ◌<◌, ◌
 ghost use Rattle.std.specs.Borrow.{sem};
 ghost use Rattle.std.specs.Vec.{vec_capacity};
 ghost use Rattle.std.specs.List.Sorted.{IsNonDecreasingBy};
+ghost use Rattle.shadow_stack.specs.Costs.{most_compared};
 ghost use Rattle.shadow_stack.specs.Frames.{FitsPop, FitsSums, IsPopped, added, new_frame, plus, starts_of};
 ghost use Rattle.shadow_pages.specs.Pages.{HasPlace};
 ghost use Rattle.call_tracker.specs.ThreadCalls.{no_counts};
 ghost use Rattle.stamp_renumber.specs.Counted.{found_added, steps_added};
+ghost use Rattle.stamp_renumber.specs.Costs.{stamps_of};
 ghost use Rattle.stamp_renumber.specs.Renumbered.{IsThreadRenumbered};
 ghost use Rattle.stamp_renumber.specs.Returned.{returned_by};
 ghost use Rattle.stamp_renumber.specs.WordRead.{IsWordRead};
@@ -17,11 +19,12 @@ use crate::rows::WorkRows;
 use call_tracker::{BegunCall, ThreadCounts};
 use guest_words::{Addr, Word};
 use shadow_pages::Shadow;
-use shadow_stack::{Frames, Sums};
+use shadow_stack::{Frames, Steps, Sums};
 use stamp_lanes::Lanes;
 use stamps::Stamp;
 use std::alloc::{AllocError, Global};
 use std::marker::Model;
+use std::sync::ledger::Ledger;
 
 /// A call that ended: what it was, the sums of its frame, and what its thread has counted.
 #[derive(Clone, Copy)]
@@ -216,9 +219,9 @@ impl<S: Stamp> ThreadStamps<S> {
     }
 
     /// A read of a word whose page is at the place: the word gets the stamp, and the sums of the frames move as after a last
-    /// access at `own`, which the caller gives.
+    /// access at `own`, which the caller gives. A step is one comparison with a start.
     #[inline(always)]
-    pub(crate) fn read_word(
+    pub(crate) fn read_word<L: Ledger>(
         &mut self,
         place: usize,
         w: Word,
@@ -226,15 +229,18 @@ impl<S: Stamp> ThreadStamps<S> {
         by: Sums,
         back: Sums,
         stamp: S,
+        steps: &mut Steps<L>,
     )
         requires place { HasPlace self.old.pages w place }
         requires some { 1 ≤ length self.old.frames }
         requires fits { (i : ℕ) → IfSome (slice_get self.old.frames i) (λ f. FitsSums (plus f.sums by)) }
         requires fits_back { (i : ℕ) → IfSome (slice_get self.old.frames i) (λ f. FitsSums (plus f.sums back)) }
-        ensures { IsWordRead w (S.number_of own) by back (S.number_of stamp) self.old self.new }
+        ensures read { IsWordRead w (S.number_of own) by back (S.number_of stamp) self.old self.new }
+        ensures cost { (digits : ℕ) → length self.old.frames < 2 ^ digits
+            → steps.new ≤ steps.old + most_compared digits (starts_of self.old.frames) (S.number_of own) }
     {
         self.shadow.set_at(place, w, stamp);
-        self.frames.move_to_top(own, by, back);
+        self.frames.move_to_top(own, by, back, steps);
     }
 
     /// Takes the innermost frame with its call. There is one.
@@ -261,13 +267,14 @@ impl<S: Stamp> ThreadStamps<S> {
 
 impl<S: Lanes> ThreadStamps<S> {
     /// Gives the frames their new starts and the words their new access stamps. The write stamps are still the old ones, and the
-    /// calls stay.
-    pub(crate) fn renumber(
+    /// calls stay. A step is one stamp.
+    pub(crate) fn renumber<L: Ledger>(
         &mut self,
         writes: &Shadow<S>,
         starts: &[S],
         renewed: &mut Vec<S>,
         rows: &mut WorkRows<S>,
+        steps: &mut Steps<L>,
     )
         requires sorted { IsNonDecreasingBy S.number_of starts.now }
         requires fit { 3 * length starts.now + 2 ≤ S.MAX }
@@ -276,8 +283,9 @@ impl<S: Lanes> ThreadStamps<S> {
         ensures thread { IsThreadRenumbered
             (map S.number_of starts.now) writes.now.pages self.old self.new }
         ensures capacity { vec_capacity renewed.old ≤ vec_capacity renewed.new }
+        ensures cost { steps.new ≡ steps.old + stamps_of self.old }
     {
-        renew_frames(&mut self.frames, starts, renewed);
-        renew_accesses(&mut self.shadow, writes, starts, rows);
+        renew_frames(&mut self.frames, starts, renewed, steps);
+        renew_accesses(&mut self.shadow, writes, starts, rows, steps);
     }
 }

@@ -2,10 +2,12 @@
 ghost use Rattle.std.specs.Prelude.{◌≡◌, ◌==◌, ◌≤◌, ◌<◌, ◌+◌, ◌*◌, ◌^◌, ◌++◌, ◌∷◌, [], ℕ, Some, true, false, All, IfNone, IfOk, IfSome, IsOk, OnErr, OnOk, is_some, length, slice_get};
 ghost use Rattle.std.specs.Borrow.{sem};
 ghost use Rattle.guest_words.specs.ByThread.{numbers, value_of, with_value, without_thread};
+ghost use Rattle.shadow_stack.specs.Costs.{most_compared};
 ghost use Rattle.shadow_stack.specs.Frames.{FitsPop, FitsSums, IsPopped, added, new_frame, plus, starts_of};
 ghost use Rattle.shadow_pages.specs.Pages.{HasPlace};
 ghost use Rattle.call_tracker.specs.ThreadCalls.{no_counts};
 ghost use Rattle.stamp_renumber.specs.Begun.{IsBegun};
+ghost use Rattle.stamp_renumber.specs.Costs.{stamps_in};
 ghost use Rattle.stamp_renumber.specs.Counted.{found_added, steps_added, with_calls};
 ghost use Rattle.stamp_renumber.specs.Returned.{IsReturned, returned_by};
 ghost use Rattle.stamp_renumber.specs.declared.thread_stamps.Returned.TheVariants.{One};
@@ -19,10 +21,11 @@ use crate::rows::WorkRows;
 use crate::thread_stamps::{EndedCall, Returned, ThreadStamps};
 use guest_words::{Addr, ByThread, Tid, Word};
 use shadow_pages::Shadow;
-use shadow_stack::{Frames, Sums};
+use shadow_stack::{Frames, Steps, Sums};
 use stamp_lanes::Lanes;
 use std::alloc::{AllocError, Global};
 use std::marker::Model;
+use std::sync::ledger::Ledger;
 
 /// Live threads, each with its frames and their calls, and the stamps of its accesses. A renumbering does not allocate: the threads hold
 /// work rows for it from the start, and room for the starts of all their frames, `frames` of them and `marks` more. No call but
@@ -252,9 +255,10 @@ impl<S: Lanes> Threads<S> {
     }
 
     /// A read by the thread of a word whose page is at the place: the word gets the stamp, and the sums of the thread's frames
-    /// move as after a last access at `own`, which the caller gives: the word's stamp so far. The thread is looked up once.
+    /// move as after a last access at `own`, which the caller gives: the word's stamp so far. The thread is looked up once. A step
+    /// is one comparison with a start.
     #[inline(always)]
-    pub fn read_word(
+    pub fn read_word<L: Ledger>(
         &mut self,
         tid: Tid,
         place: usize,
@@ -263,6 +267,7 @@ impl<S: Lanes> Threads<S> {
         by: Sums,
         back: Sums,
         stamp: S,
+        steps: &mut Steps<L>,
     )
         requires lives { is_some (value_of self.old.threads tid) ≡ true }
         requires place { HasPlace (pages_of self.old.threads tid) w place }
@@ -275,9 +280,11 @@ impl<S: Lanes> Threads<S> {
         ensures read { IsWordRead w (S.number_of own) by back (S.number_of stamp)
             (own_of self.old.threads tid) (own_of self.new.threads tid) }
         ensures marks { self.new.marks ≡ self.old.marks }
+        ensures cost { (digits : ℕ) → length (frames_of self.old.threads tid) < 2 ^ digits
+            → steps.new ≤ steps.old + most_compared digits (starts_of (frames_of self.old.threads tid)) (S.number_of own) }
     {
         let thread = self.threads.get_mut(tid).unwrap();
-        thread.read_word(place, w, own, by, back, stamp);
+        thread.read_word(place, w, own, by, back, stamp, steps);
     }
 
     /// Ends the thread's innermost call: its frame is popped, and its sums are added to the frame below. There is a frame, and a
@@ -429,13 +436,18 @@ impl<S: Lanes> Threads<S> {
         thread.ending(target)
     }
 
-    /// Gives all stamps their new numbers, and says how many frames there are.
+    /// Gives all stamps their new numbers, and says how many frames there are. A step is one stamp.
     #[cold]
     #[inline(never)]
-    pub(crate) fn renumber(&mut self, writes: &mut Shadow<S>) -> usize
+    pub(crate) fn renumber<L: Ledger>(
+        &mut self,
+        writes: &mut Shadow<S>,
+        steps: &mut Steps<L>,
+    ) -> usize
         requires { 3 * length (all_starts self.old.threads) + 2 ≤ S.MAX }
         ensures count { result ≡ length (all_starts self.old.threads) }
         ensures all { IsRenumbered self.old self.new writes.old.pages writes.new.pages }
+        ensures cost { steps.new ≡ steps.old + stamps_in self.old writes.old.pages }
     {
         sorted_starts(self.threads.list(), &mut self.starts);
         renumber_threads(
@@ -444,8 +456,9 @@ impl<S: Lanes> Threads<S> {
             &self.starts,
             &mut self.renewed,
             &mut self.rows,
+            steps,
         );
-        renew_writes(writes, &self.starts, &mut self.rows);
+        renew_writes(writes, &self.starts, &mut self.rows, steps);
         self.frames
     }
 }

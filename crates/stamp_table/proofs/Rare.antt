@@ -1,12 +1,12 @@
 -- Renumberings are rare where few activations are open at once.
-use Rattle.std.proofs.Common.{◌≡◌, ℕ, zero, suc, ◌+◌, ◌-◌, ◌*◌, ◌≤◌, Bool, true, false, not, cond, ltb, ◌&&◌, List, [], ◌∷◌, ◌++◌, refl, ap, arith}
+use Rattle.std.proofs.Common.{◌≡◌, ℕ, zero, suc, ◌+◌, ◌-◌, ◌*◌, ◌≤◌, Bool, true, false, not, cond, ltb, ◌&&◌, List, [], ◌∷◌, ◌++◌, length, refl, ap, arith}
 use Rattle.std.proofs.lemmas.Bool.{ltb-false}
 use Rattle.trace_model.specs.declared.event_kinds.Event.{Event}
 use Rattle.trace_model.specs.Depth.{pending}
 use Rattle.trace_model.specs.WellFormed.{last_step}
 use Rattle.stamp_table.specs.Ticks.{ticks}
 use Rattle.stamp_table.specs.Counting.{next_counter, counter_of, renumberings, tick_count}
-use Rattle.stamp_table.specs.Laws.{IsNeverDeeper, RenumberingsAreRare}
+use Rattle.stamp_table.specs.Laws.{IsNeverDeeper, RenumberingsAreRare, RenumberingsByEvents}
 
 -- The counter and `gap` for each renumbering are paid for by the ticks: a plain tick adds one to the counter, and one that
 -- renumbers takes the counter from the greatest stamp to at most three for each open activation and three more.
@@ -34,3 +34,15 @@ renumberings_are_rare most depth past low = by (most - (3 * depth + 2)) refl
     by : (gap : ℕ) → most - (3 * depth + 2) ≡ gap → renumberings most past * gap ≤ tick_count past
     by zero e = grind arith
     by (suc n) e = let p = paid most depth (suc n) past (omega (arith, e)) low in omega (arith, p)
+
+-- no event comes with two ticks
+few_ticks : (past : List Event) → tick_count past ≤ length past
+few_ticks [] = omega arith
+few_ticks (e ∷ past) = by (ticks e (last_step past)) (few_ticks past)
+  where
+    by : (b : Bool) → tick_count past ≤ length past → tick_count past + cond b 1 0 ≤ length (e ∷ past)
+    by true few = omega (arith, few)
+    by false few = omega (arith, few)
+
+pub renumberings_by_events : RenumberingsByEvents
+renumberings_by_events most depth past low = let rare = renumberings_are_rare most depth past low in let few = few_ticks past in omega (arith, rare, few)

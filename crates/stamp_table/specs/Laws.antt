@@ -87,3 +87,8 @@ IsNeverDeeper depth past = (later earlier : List Event) → later ++ earlier ≡
 abbrev pub RenumberingsAreRare : Type 0
 RenumberingsAreRare = (most depth : ℕ) (past : List Event) → IsNeverDeeper depth past →
     renumberings most past * (most - (3 * depth + 2)) ≤ tick_count past
+
+-- A tick comes with an event of its own, so for each renumbering there are as many events.
+abbrev pub RenumberingsByEvents : Type 0
+RenumberingsByEvents = (most depth : ℕ) (past : List Event) → IsNeverDeeper depth past →
+    renumberings most past * (most - (3 * depth + 2)) ≤ length past

@@ -1,5 +1,5 @@
 //! Laws of the table: each is the contract of a function that does nothing.
-ghost use Rattle.stamp_table.specs.Laws.{AgreesOn, CounterFits, CountsOn, EmptyStands, FinishesWhatEnds, FinishesWhatIsDone, OpenAreAsDefined, RenumberingsAreRare, RunsAgree, StandsOn, TicksKeepTheTable};
+ghost use Rattle.stamp_table.specs.Laws.{AgreesOn, CounterFits, CountsOn, EmptyStands, FinishesWhatEnds, FinishesWhatIsDone, OpenAreAsDefined, RenumberingsAreRare, RenumberingsByEvents, RunsAgree, StandsOn, TicksKeepTheTable};
 ghost use Rattle.stamp_table.specs.Allows.{AllowsWhatMayFollow, CountsStayWithin, DeepDoesNotFit, FitsByFrames, PopsStayWithin, SumsStayWithin};
 ghost use Rattle.stamp_table.specs.Observing.{TakesEvents};
 ghost use Rattle.stamp_table.specs.Bulk.{ReadsAtOnce};
@@ -36,6 +36,7 @@ pub fn the_counter_is_that_of_the_trace()
     ensures runs { RunsAgree }
     ensures fits { CounterFits }
     ensures rare { RenumberingsAreRare }
+    ensures rare_by_events { RenumberingsByEvents }
 {}
 
 /// Which event may follow is a test of the table alone, and so is whether it fits. No sum passes the weight of the past and the

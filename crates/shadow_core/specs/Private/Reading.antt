@@ -1,5 +1,5 @@
 -- A read of words as the code makes it: what becomes of the frames and the stamps of the thread that reads.
-use Rattle.std.specs.Prelude.{◌≡◌, ℕ, ◌≤◌, if◌then◌else◌, List, map, reverse}
+use Rattle.std.specs.Prelude.{◌≡◌, ℕ, ◌+◌, ◌*◌, ◌≤◌, if◌then◌else◌, List, map, reverse}
 use Rattle.std.specs.List.{range_with_len}
 use Rattle.guest_words.specs.ByThread.{with_value}
 use Rattle.stamp_lanes.specs.Plain.{Place}
@@ -9,6 +9,7 @@ use Rattle.shadow_pages.specs.Pages.{Page, covers, in_range, stamp_at}
 use Rattle.stamp_renumber.specs.Threads.{Live, calls_of, frames_of, pages_of, spare_of, stamped}
 use Rattle.stamp_table.specs.Frames.{frames_after_reads}
 use Rattle.stamp_table.specs.Allows.{IsWithin}
+use Rattle.shadow_core.specs.Costs.{HasDigits, old_words}
 
 -- each of the two is 1, 0 or minus 1
 abbrev pub AreSmall : Sums → Type 0
@@ -32,3 +33,8 @@ pub record IsRead (old new : Live) (t : ℕ) (write marks : ℕ → ℕ) (first 
       ≡ frames_after_reads (places_at (stamp_at (pages_of old.threads t)) write marks (range_with_len first count)) (reverse (frames_of old.threads t))
   pub stamps : (w : ℕ) → stamp_at (pages_of new.threads t) w ≡ (if in_range first count w then stamp else stamp_at (pages_of old.threads t) w)
   pub covered : (w : ℕ) → covers (pages_of new.threads t) w ≡ covers (pages_of old.threads t) w
+
+-- A read of the range counts at most `most` steps, and `digits` for each old word, where the depth has so many digits.
+abbrev pub IsReadWithin : ℕ → Live → ℕ → ℕ → ℕ → ℕ → ℕ → Type 0
+IsReadWithin most old t first count before after =
+    (digits : ℕ) → HasDigits digits old t → after ≤ before + most + old_words old t first count * digits

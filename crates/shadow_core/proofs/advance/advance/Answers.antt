@@ -9,8 +9,8 @@ as_number : (b : Bool) → bool_byte b ≡ cond b 1 0
 as_number true = refl
 as_number false = refl
 
-pub returns : goal.returns
-returns g c =
+pub returns-clause-advanced : goal.returns-clause-advanced
+returns-clause-advanced g c =
     let old : Clock = record { counter = c.args.counter.now; writes = c.args.writes.now.pages; live = c.args.threads.now; renumbered = c.args.renumbered.now } in
     let new = c.tick-answer.new in
     let e = c.tick-answer.ensures in

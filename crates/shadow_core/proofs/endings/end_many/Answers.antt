@@ -9,6 +9,7 @@ loop-count-init g c =
     record {
       few = omega arith;
       ended = none_ended c.args.tid c.args.threads.now c.args.done.now.items c.requires.lives;
+      cost = omega arith;
       lives = c.requires.lives;
       room = omega (arith, space);
     }
@@ -38,6 +39,7 @@ loop-count-preserved g c =
     record {
       few = omega (arith, test);
       ended = ended_on c.args.tid c.loop-count.count _ _ _ _ _ _ c.requires.lives c.loop-count.invariant.ended more.ended;
+      cost = omega (arith, more.cost, c.loop-count.invariant.cost);
       lives = lives_on c.args.tid 1 _ _ _ _ c.loop-count.invariant.lives more.ended;
       room = omega (arith, more.capacity, more.count, room, test);
     }

@@ -1,16 +1,18 @@
-use Rattle.std.proofs.Common.{◌≡◌, ◌∙◌, ◌+◌, ◌-◌, ◌^◌, ℕ, List, length, map, ap, sym, subst, arith}
+use Rattle.std.proofs.Common.{◌≡◌, ◌∙◌, ◌+◌, ◌-◌, ◌^◌, ℕ, List, length, map, ap, sym, subst, arith, ◌*◌, ◌&&◌, cond}
 use Rattle.std.specs.Prelude.{◌==◌}
 use Rattle.stamp_lanes.specs.Plain.{IsBulk, Place}
 use Rattle.shadow_stack.specs.declared.sums.Sums.{Sums}
 use Rattle.shadow_stack.specs.Frames.{Frame, Stack}
-use Rattle.shadow_pages.specs.Pages.{Pages, covers, stamp_at}
+use Rattle.shadow_pages.specs.Pages.{Pages, covers, stamp_at, in_range}
 use Rattle.stamp_renumber.specs.LentThread.{with_pages}
 use Rattle.stamp_renumber.specs.Threads.{Live, frames_of, pages_of}
 use Rattle.stamp_table.specs.Allows.{AreWithin, IsWithin}
-use Rattle.shadow_core.specs.Private.Reading.{IsRead}
+use Rattle.shadow_core.specs.Private.Reading.{IsRead, IsReadWithin}
 use Rattle.shadow_core.proofs.PartReads.{number_within, places_are, read_at_once, read_singly, some_fits, stamps_from}
 use Rattle.shadow_core.proofs.Reading.{frames_changed, lent_changed, lives_changed, pages_changed}
 use Rattle.shadow_core.proofs.reads.read_part.Goals as goal
+use Rattle.shadow_core.proofs.Costs.{within_alone, within_before, within_same}
+use Rattle.shadow_core.proofs.StateThreads.{differ}
 use Rattle.shadow_core.proofs.reads.read_part.Goals.{then-bulk-eq0, else-bulk-eq0}
 
 pub add_sum-requires-clause-lives : goal.add_sum-requires-clause-lives
@@ -75,7 +77,7 @@ returns-clause-thread g c =
     let ps = places_are c.shadow_mut.result.now.pages (pages_of c.args.threads.now.threads c.args.tid) (stamp_at c.args.writes.now.pages) (stamp_at c.args.marks.now.pages) c.args.first c.args.count
     (length c.row_of-write.result.now) (map f c.row_of-write.result.now) c.row_of-mark.result.now (ap (λ (s : Pages). s.pages) c.shadow_mut.ensures.value) c.row_of-write.ensures.count c.row_of-write.ensures.row c.row_of-mark.ensures.row in
     let counts = subst (λ (qs : List Place). IsBulk (f c.start_at-start.result) qs c.read_page-bulk.result) ps c.read_page-bulk.ensures.counts in
-    c.from.ensures ∙ counts.thread
+    c.from-2.ensures ∙ counts.thread
 
 pub returns-clause-kernel : goal.returns-clause-kernel
 returns-clause-kernel g c =
@@ -83,7 +85,7 @@ returns-clause-kernel g c =
     let ps = places_are c.shadow_mut.result.now.pages (pages_of c.args.threads.now.threads c.args.tid) (stamp_at c.args.writes.now.pages) (stamp_at c.args.marks.now.pages) c.args.first c.args.count
     (length c.row_of-write.result.now) (map f c.row_of-write.result.now) c.row_of-mark.result.now (ap (λ (s : Pages). s.pages) c.shadow_mut.ensures.value) c.row_of-write.ensures.count c.row_of-write.ensures.row c.row_of-mark.ensures.row in
     let counts = subst (λ (qs : List Place). IsBulk (f c.start_at-start.result) qs c.read_page-bulk.result) ps c.read_page-bulk.ensures.counts in
-    c.from-2.ensures ∙ counts.kernel
+    c.from-3.ensures ∙ counts.kernel
 
 pub returns-clause-read : goal.returns-clause-read
 returns-clause-read g c =
@@ -113,5 +115,32 @@ returns-clause-read g c =
       | else-bulk-eq0 w ↦
           subst (λ (l : Live). IsRead old l t write marks c.args.first n (f c.args.stamp)) (sym w.threads-is)
           (read_singly old t pages write marks c.args.first n (f c.args.stamp) bulk c.requires.lives stamps covered
-          w.read_words.new.threads w.if-bulk-eq0.false (w.read_words.ensures marks))
+          w.read_words.new.threads w.if-bulk-eq0.false (w.read_words.ensures.read marks))
+    ]
+
+pub returns-clause-cost : goal.returns-clause-cost
+returns-clause-cost g c =
+    let old = c.args.threads.now in
+    let t = c.args.tid in
+    let first = c.args.first in
+    let n = c.args.count in
+    let pages = c.read_page-bulk.new.pages.pages in
+    let mid = with_pages old t pages in
+    let bulk = c.read_page-bulk.result in
+    let before = c.args.steps.now in
+    let lent = lent_changed old t pages c.requires.lives in
+    let frames = frames_changed old mid t (frames_of old.threads t) pages c.requires.lives lent in
+    let stamps = stamps_from c.shadow_mut.result.now.pages (pages_of old.threads t) pages first (length c.row_of-write.result.now) n (g.S.Stamp.number_of c.args.stamp) (bulk.old == 0) (ap (λ (s : Pages). s.pages) c.shadow_mut.ensures.value) c.row_of-write.ensures.count c.read_page-bulk.ensures.stamps in
+    elim c.if-bulk-eq0.branch [
+      | then-bulk-eq0 w ↦
+          let same = w.steps-is in
+          within_alone (23 * n) old t first n before c.if-bulk-eq0.steps (omega (arith, same, c.count.ensures, c.from.ensures, c.requires.some))
+      | else-bulk-eq0 w ↦
+          let kept : (v : ℕ) → stamp_at (pages_of mid.threads t) v ≡ stamp_at (pages_of old.threads t) v =
+          λ v. ap (λ ps. stamp_at ps v) (pages_changed old mid t (frames_of old.threads t) pages c.requires.lives lent) ∙ stamps v
+          ∙ ap (λ b. cond (b && in_range first n v) (g.S.Stamp.number_of c.args.stamp) (stamp_at (pages_of old.threads t) v)) (differ bulk.old 0 w.if-bulk-eq0.false)
+          in
+          subst (λ (m : ℕ). IsReadWithin (23 * n) old t first n before m) (sym w.steps-is)
+          (within_same (23 * n) old mid t first n before w.read_words.new.steps frames kept
+          (within_before (10 + 4 * n) (9 * n) (23 * n) mid t first n before c.count.new.self w.read_words.new.steps (omega (arith, c.count.ensures, c.from.ensures)) (omega (arith, c.requires.some)) w.read_words.ensures.cost))
     ]

@@ -1,8 +1,9 @@
-use Rattle.std.proofs.Common.{◌+◌, ◌<◌, ◌^◌, sym, subst, arith, refl}
+use Rattle.std.proofs.Common.{◌+◌, ◌*◌, ◌<◌, ◌^◌, sym, subst, arith, refl}
 use Rattle.std.specs.Prelude.{All}
 use Rattle.shadow_pages.specs.Pages.{stamp_at}
 use Rattle.stamp_lanes.specs.Plain.{is_by_kernel, is_by_thread}
 use Rattle.stamp_renumber.specs.Threads.{frames_of, pages_of}
+use Rattle.shadow_core.proofs.Costs.{within_alone, within_on}
 use Rattle.shadow_core.proofs.PartReads.{count_few, counts_on}
 use Rattle.shadow_core.proofs.Reading.{length_read, nothing_read, read_on, read_within, starts_read, within_more}
 use Rattle.shadow_core.proofs.reads.read_parts.Goals as goal
@@ -11,6 +12,7 @@ pub loop-done-init : goal.loop-done-init
 loop-done-init g c = record {
   few = omega arith;
   read = nothing_read c.args.threads.now c.args.tid (stamp_at c.args.writes.now.pages) (stamp_at c.args.marks.now.pages) c.args.first (g.S.Stamp.number_of c.args.stamp) c.requires.lives;
+  cost = within_alone 0 c.args.threads.now c.args.tid c.args.first 0 c.args.steps.now c.args.steps.now (omega arith);
   thread = refl;
   kernel = refl;
 }
@@ -59,6 +61,8 @@ loop-done-preserved g c =
     record {
       few = omega (arith, c.loop-done.invariant.few, c.part_size-size.ensures.left, c.loop-done-test.true);
       read = read_on old now t write marks c.args.first c.loop-done.done stamp c.requires.lives one c.read_part-more.new.threads c.word_at-at.result size c.word_at-at.ensures c.read_part-more.ensures.read;
+      cost = within_on old now t write marks c.args.first c.loop-done.done stamp c.requires.lives one (23 * c.loop-done.done) (23 * size) (23 * (c.loop-done.done + size)) c.word_at-at.result size c.args.steps.now c.loop-done.steps c.read_part-more.new.steps
+          c.word_at-at.ensures (omega arith) c.loop-done.invariant.cost c.read_part-more.ensures.cost;
       thread = counts_on is_by_thread old now t write marks c.args.first c.loop-done.done stamp c.requires.lives one c.word_at-at.result size c.loop-done.found.thread c.read_part-more.result.thread c.word_at-at.ensures c.loop-done.invariant.thread c.read_part-more.ensures.thread;
       kernel = counts_on is_by_kernel old now t write marks c.args.first c.loop-done.done stamp c.requires.lives one c.word_at-at.result size c.loop-done.found.kernel c.read_part-more.result.kernel c.word_at-at.ensures c.loop-done.invariant.kernel c.read_part-more.ensures.kernel;
     }

@@ -25,6 +25,7 @@ loop-i-preserved g c =
           ap (map f) pushed ∙ map_push f c.loop-i.renewed.items c.from_number.result
           ∙ ap₂ (λ (a : List ℕ) (b : ℕ). a ++ b ∷ []) c.loop-i.invariant.items value
           ∙ sym (map_more (new_start starts) xs i 0 inside);
+      cost = omega (arith, c.tick.ensures, c.loop-i.invariant.cost);
       rising = λ _. c.start_at.ensures.rising;
     }
 

@@ -12,6 +12,7 @@ loop-i-preserved g c =
     let lt : c.loop-i.i < length old = omega (arith, c.loop-i-test.true, c.pages-i-end.ensures.value) in
     record {
       long = ap length c.renew_access_page.ensures ∙ length-set c.loop-i.shadow.pages c.loop-i.i _ ∙ c.loop-i.invariant.long;
+      cost = omega (arith, c.count.ensures, c.loop-i.invariant.cost);
       pages = c.renew_access_page.ensures ∙ page_more f old c.loop-i.shadow.pages c.loop-i.i lt c.loop-i.invariant.pages c.loop-i.invariant.long;
     }
 

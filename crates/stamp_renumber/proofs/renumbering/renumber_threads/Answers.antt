@@ -1,10 +1,12 @@
-use Rattle.std.proofs.Common.{◌≡◌, ◌<◌, ◌∙◌, ℕ, List, length, map, get_or, set, Some, ap, sym, subst, arith, All}
-use Rattle.std.specs.Prelude.{Contains}
+use Rattle.std.proofs.Common.{◌≡◌, ◌+◌, ◌<◌, ◌∙◌, ℕ, List, length, map, get_or, set, Some, ap, sym, subst, arith, All}
+use Rattle.std.specs.Prelude.{Contains, sum_by}
 use Rattle.std.specs.Option.{option_copied_mut}
-use Rattle.std.proofs.lemmas.List.{get_or_default}
+use Rattle.std.proofs.lemmas.List.{get_or_default, take_all}
+use Rattle.std.proofs.lemmas.List.Sums.{sum_by_more}
 use Rattle.guest_words.specs.ByThread.{IsRising, numbers, value_of, with_value}
 use Rattle.guest_words.proofs.ThreadTables.{numbers-with}
 use Rattle.shadow_stack.specs.Frames.{starts_of}
+use Rattle.stamp_renumber.specs.Costs.{stamps_of}
 use Rattle.stamp_renumber.specs.Renumbered.{IsThreadRenumbered}
 use Rattle.stamp_renumber.specs.Threads.{Stamped}
 use Rattle.stamp_renumber.proofs.Whole.{all_of_place, done_more, left_more, lent, numbers_long, starts_of_place, value_at, with_at}
@@ -87,5 +89,12 @@ loop-i-preserved g c =
       done = λ k e lt. subst (λ (xs : List (ℕ × Stamped)). R (get_or old k e).1 (get_or xs k e).1) (sym changed)
           (done_more R old now i t new long inside (λ e. subst (λ s. R s new) (was ∙ ap (λ (x : ℕ × Stamped). x.1) (get_or_default old i d e inside)) c.renumber.ensures.thread) c.loop-i.invariant.done k e lt);
       left = λ k e le. ap (λ (xs : List (ℕ × Stamped)). get_or xs k e) changed ∙ left_more R old now i t new long inside c.loop-i.invariant.left k e le;
+      cost = omega (arith, c.renumber.ensures.cost, ap stamps_of was, sum_by_more (λ (x : ℕ × Stamped). stamps_of x.1) old i d inside, c.loop-i.invariant.cost);
       capacity = omega (arith, c.renumber.ensures.capacity, c.loop-i.invariant.capacity);
     }
+
+pub returns-clause-cost : goal.returns-clause-cost
+returns-clause-cost g c =
+    let old = c.args.threads.now.list in
+    let all = take_all c.loop-i.i old (omega (arith, c.loop-i-test.false, c.len-i-end.ensures.value)) in
+    c.loop-i.invariant.cost ∙ ap (λ (xs : List (ℕ × Stamped)). c.args.steps.now + sum_by (λ x. stamps_of x.1) xs) all

@@ -1,5 +1,5 @@
 use Rattle.stamp_table.proofs.Counted.{counter_fits}
-use Rattle.stamp_table.proofs.Rare.{renumberings_are_rare}
+use Rattle.stamp_table.proofs.Rare.{renumberings_are_rare, renumberings_by_events}
 use Rattle.stamp_table.proofs.Runs.{counts_on, runs_agree}
 use Rattle.stamp_table.proofs.laws.the_counter_is_that_of_the_trace.Goals as goal
 
@@ -14,3 +14,6 @@ returns-clause-fits c = counter_fits
 
 pub returns-clause-rare : goal.returns-clause-rare
 returns-clause-rare c = renumberings_are_rare
+
+pub returns-clause-rare_by_events : goal.returns-clause-rare_by_events
+returns-clause-rare_by_events c = renumberings_by_events

@@ -57,7 +57,7 @@ returns-clause-table g c =
     let may = may_end g.S.Stamp.MAX t (End t) _ _ c.self.view_is c.requires c.requires.formed.0 in
     let frames = ap (λ (s : Stack). length s.list) c.frames.ensures in
     let count : c.depth-ended.result ≡ length (calls_of c.self.inside.threads.threads t).list = omega (arith, c.depth-ended.ensures, frames, may.can.frames) in
-    thread_ended t c.depth-ended.result _ c.end_calls.new.threads c.remove.new.self c.reserve.new.self.items c.end_calls.new.done.items may count c.end_calls.ensures c.remove.ensures.threads g.S.Stamp.MAX
+    thread_ended t c.depth-ended.result _ c.end_calls.new.threads c.remove.new.self c.reserve.new.self.items c.end_calls.new.done.items may count c.end_calls.ensures.ended c.remove.ensures.threads g.S.Stamp.MAX
     ∙ ap (λ (k : State). table_after (bounded_tick g.S.Stamp.MAX) (End t) (table_of_state k)) c.self.view_is
 
 pub returns-clause-done : goal.returns-clause-done
@@ -66,5 +66,5 @@ returns-clause-done g c =
     let may = may_end g.S.Stamp.MAX t (End t) _ _ c.self.view_is c.requires c.requires.formed.0 in
     let frames = ap (λ (s : Stack). length s.list) c.frames.ensures in
     let count : c.depth-ended.result ≡ length (calls_of c.self.inside.threads.threads t).list = omega (arith, c.depth-ended.ensures, frames, may.can.frames) in
-    all_recorded t c.depth-ended.result _ c.end_calls.new.threads c.remove.new.self c.reserve.new.self.items c.end_calls.new.done.items may count c.end_calls.ensures c.remove.ensures.threads
+    all_recorded t c.depth-ended.result _ c.end_calls.new.threads c.remove.new.self c.reserve.new.self.items c.end_calls.new.done.items may count c.end_calls.ensures.ended c.remove.ensures.threads
     ∙ (λ i. c.in_ok-reserve.ensures.items i ++ finished (End t) (table_of_state (c.self.view_is i)))

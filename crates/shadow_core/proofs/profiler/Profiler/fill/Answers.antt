@@ -1,4 +1,4 @@
-use Rattle.std.proofs.Common.{◌≡◌, ◌∙◌, ℕ, ap, cond, subst, sym, true}
+use Rattle.std.proofs.Common.{◌≡◌, ◌∙◌, ℕ, ap, cond, subst, sym, true, ◌+◌, ◌*◌, length, arith}
 use Rattle.trace_model.specs.declared.event_kinds.Event.TheVariants.{Fill}
 use Rattle.shadow_pages.specs.Pages.{AreCovered, covers, in_range, stamp_at}
 use Rattle.stamp_table.specs.Renewal.{bounded_tick}
@@ -7,6 +7,10 @@ use Rattle.stamp_table.specs.Ticks.{table_after}
 use Rattle.shadow_core.proofs.Accessed.{filled}
 use Rattle.shadow_core.proofs.Profiled.{advance_here}
 use Rattle.shadow_core.proofs.SamePages.{advanced_alike, seen_same}
+use Rattle.std.specs.Prelude.{nat_lt, sum_by}
+use Rattle.stamp_renumber.specs.Costs.{stamps_in, stamps_of}
+use Rattle.shadow_core.specs.Costs.{most_ticked}
+use Rattle.shadow_core.proofs.Costs.{ticked_more}
 use Rattle.shadow_core.proofs.profiler.Profiler.fill.Goals as goal
 
 pub advance-requires-clause-within : goal.advance-requires-clause-within
@@ -27,9 +31,9 @@ returns-clause-table g c =
     let count = c.args.count in
     let covered = c.cover.ensures in
     let number : g.S.Stamp.number_of c.from_number-now.result ≡ c.advance.new.counter =
-    ap g.S.Stamp.number_of c.from_number-now.ensures ∙ g.met.S.Stamp.number_back c.advance.new.counter c.advance.ensures.within in
+    ap g.S.Stamp.number_of c.from_number-now.ensures ∙ g.met.S.Stamp.number_back c.advance.new.counter c.advance.ensures.advanced.within in
     filled g.S.Stamp.MAX first count _ c.cover.new.writes.pages c.cover.new.marks.pages _ c.fill.new.writes.pages c.fill.new.marks.pages
-    covered.stamps covered.kinds c.advance.ensures
+    covered.stamps covered.kinds c.advance.ensures.advanced
     (λ w. c.fill.ensures.writes.stamps w ∙ ap (λ (n : ℕ). cond (in_range first count w) n (stamp_at c.advance.new.writes.pages w)) number)
     c.fill.ensures.marks.stamps
     ∙ ap (λ (k : State). table_after (bounded_tick g.S.Stamp.MAX) (Fill first count) (table_of_state k)) c.self.view_is
@@ -38,7 +42,16 @@ pub returns-clause-pages : goal.returns-clause-pages
 returns-clause-pages g c = λ all.
     let same = c.cover.ensures.same (subst (λ (k : State). AreCovered k.writes c.args.first c.args.count) (sym c.self.view_is) all) in
     seen_same c.self.view_is (record {
-      writes = λ w. c.fill.ensures.writes.covered w ∙ c.advance.ensures.covered w ∙ ap (λ ps. covers ps w) same.0;
+      writes = λ w. c.fill.ensures.writes.covered w ∙ c.advance.ensures.advanced.covered w ∙ ap (λ ps. covers ps w) same.0;
       marks = λ w. c.fill.ensures.marks.covered w ∙ ap (λ ps. covers ps w) same.1;
-      accesses = advanced_alike g.S.Stamp.MAX true _ _ c.advance.ensures;
+      accesses = advanced_alike g.S.Stamp.MAX true _ _ c.advance.ensures.advanced;
     })
+
+pub returns-clause-cost : goal.returns-clause-cost
+returns-clause-cost g c = λ digits fits.
+    let most = g.S.Stamp.MAX in
+    let n = c.args.count in
+    let s = c.self.inside in
+    let few = ticked_more (nat_lt s.counter most) (sum_by (λ x. stamps_of x.1) s.threads.threads) (length s.writes.pages) (length c.cover.new.writes.pages) n c.cover.ensures.few in
+    let is : cond (nat_lt s.counter most) 0 (stamps_in s.threads s.writes.pages + 1024 * n) ≡ most_ticked most (Fill c.args.first n) c.args.self.now = ap (λ (k : State). most_ticked most (Fill c.args.first n) k) c.self.view_is in
+    omega (arith, few, is, c.advance.ensures.cost, c.count.ensures, c.from.ensures)

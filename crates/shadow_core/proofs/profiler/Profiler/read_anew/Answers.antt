@@ -1,15 +1,17 @@
-use Rattle.std.proofs.Common.{◌≡◌, ◌≤◌, ◌∙◌, ap, refl, subst, sym, arith}
+use Rattle.std.proofs.Common.{◌≡◌, ◌≤◌, ◌∙◌, ap, refl, subst, sym, arith, ◌+◌, ◌*◌}
 use Rattle.trace_model.specs.declared.event_kinds.Event.TheVariants.{Read}
 use Rattle.shadow_pages.specs.Pages.{AreCovered, covers, stamp_at}
 use Rattle.stamp_lanes.specs.Plain.{is_by_kernel, is_by_thread}
-use Rattle.stamp_renumber.specs.Threads.{pages_of}
+use Rattle.stamp_renumber.specs.Threads.{pages_of, frames_of}
 use Rattle.shadow_core.specs.State.{State, table_of_state}
 use Rattle.shadow_core.proofs.Accessed.{own_room}
 use Rattle.shadow_core.proofs.PartReads.{count_few}
 use Rattle.shadow_core.proofs.Profiled.{advance_here, alive_here, lives_here, on_err}
 use Rattle.shadow_core.proofs.ReadEvents.{found_fits, found_lives, may_read_there, read_whole}
-use Rattle.shadow_core.proofs.Reading.{lives_changed}
+use Rattle.shadow_core.proofs.Reading.{lives_changed, frames_changed}
 use Rattle.shadow_core.proofs.SamePages.{calls_alike, changed_alike, seen_same}
+use Rattle.shadow_core.specs.Private.Reading.{IsReadWithin}
+use Rattle.shadow_core.proofs.Costs.{within_alone, within_before, within_same}
 use Rattle.shadow_core.proofs.profiler.Profiler.read_anew.Goals as goal
 
 pub cover_own-requires-clause-lives : goal.cover_own-requires-clause-lives
@@ -95,3 +97,23 @@ returns-clause-pages g c = λ own.
           ∙ changed_alike mid c.read-found.new.threads t _ _ (lives_changed old mid t _ _ lives roomy) read.changed read.covered u w
           ∙ changed_alike old mid t _ _ lives roomy (λ v. ap (λ ps. covers ps v) kept) u w;
     })
+
+pub returns-in_err-cover_own-clause-cost : goal.returns-in_err-cover_own-clause-cost
+returns-in_err-cover_own-clause-cost g c =
+    let n = c.args.count in
+    within_alone (4 + 24 * n) c.args.self.now.live c.args.tid c.args.first n c.args.steps.now c.count.new.self (omega (arith, c.count.ensures))
+
+pub returns-clause-cost : goal.returns-clause-cost
+returns-clause-cost g c =
+    let t = c.args.tid in
+    let first = c.args.first in
+    let n = c.args.count in
+    let before = c.args.steps.now in
+    let after = c.read-found.new.steps in
+    let old = c.self.inside.threads in
+    let mid = c.cover_own.new.threads in
+    let lives = lives_here _ t (alive_here g.S.Stamp.MAX (Read t first n) t _ _ c.self.view_is c.requires c.requires.formed.0.0.0) in
+    let frames = frames_changed old mid t (frames_of old.threads t) (pages_of mid.threads t) lives c.in_ok-cover_own.ensures.changed in
+    subst (λ (k : State). IsReadWithin (4 + 24 * n) k.live t first n before after) c.self.view_is
+    (within_same (4 + 24 * n) old mid t first n before after frames c.in_ok-cover_own.ensures.stamps
+    (within_before (4 + n) (23 * n) (4 + 24 * n) mid t first n before c.count.new.self after (omega (arith, c.count.ensures)) (omega arith) c.read-found.ensures.cost))

@@ -9,6 +9,8 @@ use Rattle.shadow_core.proofs.Profiled.{advance_here, alive_here, lives_here}
 use Rattle.shadow_core.proofs.ReadEvents.{found_fits, found_lives, may_read_there, read_whole}
 use Rattle.shadow_core.proofs.Reading.{lives_changed, not_changed, within_more}
 use Rattle.shadow_core.proofs.SamePages.{calls_alike, changed_alike, seen_same}
+use Rattle.shadow_core.specs.Private.Reading.{IsReadWithin}
+use Rattle.shadow_core.proofs.Costs.{within_before}
 use Rattle.shadow_core.proofs.profiler.Profiler.read_foreign.Goals as goal
 
 pub from_number-now-requires : goal.from_number-now-requires
@@ -89,3 +91,10 @@ returns-clause-pages g c =
           calls_alike c.read_at-found.new.threads c.add_found.new.self t _ (lives_changed old c.read_at-found.new.threads t _ _ lives read.changed) c.add_found.ensures u w
           ∙ changed_alike old c.read_at-found.new.threads t _ _ lives read.changed read.covered u w;
     })
+
+pub returns-clause-cost : goal.returns-clause-cost
+returns-clause-cost g c =
+    let t = c.args.tid in
+    let before = c.args.steps.now in
+    subst (λ (k : State). IsReadWithin 9 k.live t c.args.w 1 before c.read_at-found.new.steps) c.self.view_is
+    (within_before 1 8 9 c.self.inside.threads t c.args.w 1 before c.tick.new.self c.read_at-found.new.steps c.tick.ensures (omega arith) c.read_at-found.ensures.cost)

@@ -8,6 +8,7 @@ use Rattle.shadow_core.proofs.ReadEvents.{may_read_there}
 use Rattle.shadow_core.proofs.Reading.{not_changed, within_more}
 use Rattle.shadow_core.proofs.Repeated.{read_by_own}
 use Rattle.shadow_core.proofs.SamePages.{changed_alike, seen_same}
+use Rattle.shadow_core.specs.Private.Reading.{IsReadWithin}
 use Rattle.shadow_core.proofs.profiler.Profiler.read_own.Goals as goal
 
 pub from_number-now-requires : goal.from_number-now-requires
@@ -43,7 +44,7 @@ returns-clause-table g c =
     let kept = subst (λ (k : State). stamp_at k.writes c.args.w ≤ stamp_at (pages_of k.live.threads t) c.args.w) (sym c.self.view_is) c.requires.kept in
     let own = c.requires.own ∙ ap (λ (k : State). stamp_at (pages_of k.live.threads t) c.args.w) (sym c.self.view_is) in
     read_by_own g.S.Stamp.MAX t c.args.w _ _ c.read_kept.new.threads _ _ c.self.view_is c.requires.may
-    (c.read_kept.ensures (stamp_at c.self.inside.writes.pages) (stamp_at c.self.inside.marks.pages) (omega (arith, kept, own))) number kept (omega arith)
+    (c.read_kept.ensures.read (stamp_at c.self.inside.writes.pages) (stamp_at c.self.inside.marks.pages) (omega (arith, kept, own))) number kept (omega arith)
 
 pub returns-clause-pages : goal.returns-clause-pages
 returns-clause-pages g c =
@@ -51,9 +52,13 @@ returns-clause-pages g c =
     let lives = lives_here _ c.args.tid (alive_here g.S.Stamp.MAX (Read c.args.tid c.args.w 1) c.args.tid _ _ c.self.view_is c.requires.may c.requires.may.formed.0.0.0) in
     let kept = subst (λ (k : State). stamp_at k.writes c.args.w ≤ stamp_at (pages_of k.live.threads t) c.args.w) (sym c.self.view_is) c.requires.kept in
     let own = c.requires.own ∙ ap (λ (k : State). stamp_at (pages_of k.live.threads t) c.args.w) (sym c.self.view_is) in
-    let read = c.read_kept.ensures (stamp_at c.self.inside.writes.pages) (stamp_at c.self.inside.marks.pages) (omega (arith, kept, own)) in
+    let read = c.read_kept.ensures.read (stamp_at c.self.inside.writes.pages) (stamp_at c.self.inside.marks.pages) (omega (arith, kept, own)) in
     seen_same c.self.view_is (record {
       writes = λ w. refl;
       marks = λ w. refl;
       accesses = λ u w. changed_alike c.self.inside.threads c.read_kept.new.threads t _ _ lives read.changed read.covered u w;
     })
+
+pub returns-clause-cost : goal.returns-clause-cost
+returns-clause-cost g c =
+    subst (λ (k : State). IsReadWithin 4 k.live c.args.tid c.args.w 1 c.args.steps.now c.read_kept.new.steps) c.self.view_is c.read_kept.ensures.cost

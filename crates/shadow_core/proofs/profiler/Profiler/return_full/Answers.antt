@@ -81,7 +81,7 @@ returns-clause-table g c =
     let may = may_end g.S.Stamp.MAX t (Ret t c.args.target) _ _ c.self.view_is c.requires c.requires.formed.0.0 in
     let same = c.ending-ended.ensures.same in
     let ended : IsEnded t c.ending-ended.result c.self.inside.threads c.end_calls.new.threads c.reserve.new.self.items c.end_calls.new.done.items =
-    subst (λ (l : Live). IsEnded t c.ending-ended.result l c.end_calls.new.threads c.reserve.new.self.items c.end_calls.new.done.items) same c.end_calls.ensures in
+    subst (λ (l : Live). IsEnded t c.ending-ended.result l c.end_calls.new.threads c.reserve.new.self.items c.end_calls.new.done.items) same c.end_calls.ensures.ended in
     let count = c.ending-ended.ensures.count in
     returned t c.args.target c.ending-ended.result _ c.end_calls.new.threads c.reserve.new.self.items c.end_calls.new.done.items may count ended g.S.Stamp.MAX
     ∙ ap (λ (k : State). table_after (bounded_tick g.S.Stamp.MAX) (Ret t c.args.target) (table_of_state k)) c.self.view_is
@@ -92,7 +92,7 @@ returns-clause-done g c =
     let may = may_end g.S.Stamp.MAX t (Ret t c.args.target) _ _ c.self.view_is c.requires c.requires.formed.0.0 in
     let same = c.ending-ended.ensures.same in
     let ended : IsEnded t c.ending-ended.result c.self.inside.threads c.end_calls.new.threads c.reserve.new.self.items c.end_calls.new.done.items =
-    subst (λ (l : Live). IsEnded t c.ending-ended.result l c.end_calls.new.threads c.reserve.new.self.items c.end_calls.new.done.items) same c.end_calls.ensures in
+    subst (λ (l : Live). IsEnded t c.ending-ended.result l c.end_calls.new.threads c.reserve.new.self.items c.end_calls.new.done.items) same c.end_calls.ensures.ended in
     let count = c.ending-ended.ensures.count in
     recorded t c.args.target c.ending-ended.result _ c.end_calls.new.threads c.reserve.new.self.items c.end_calls.new.done.items may count ended
     ∙ (λ i. c.in_ok-reserve.ensures.items i ++ finished (Ret t c.args.target) (table_of_state (c.self.view_is i)))
@@ -108,7 +108,7 @@ returns-clause-pages g c =
     let may = may_end g.S.Stamp.MAX t (Ret t c.args.target) _ _ c.self.view_is c.requires c.requires.formed.0.0 in
     let same = c.ending-ended.ensures.same in
     let ended : IsEnded t c.ending-ended.result c.self.inside.threads c.end_calls.new.threads c.reserve.new.self.items c.end_calls.new.done.items =
-    subst (λ (l : Live). IsEnded t c.ending-ended.result l c.end_calls.new.threads c.reserve.new.self.items c.end_calls.new.done.items) same c.end_calls.ensures in
+    subst (λ (l : Live). IsEnded t c.ending-ended.result l c.end_calls.new.threads c.reserve.new.self.items c.end_calls.new.done.items) same c.end_calls.ensures.ended in
     let count = c.ending-ended.ensures.count in
     seen_same c.self.view_is (record {
       writes = λ w. refl;

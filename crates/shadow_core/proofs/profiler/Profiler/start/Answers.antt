@@ -23,27 +23,27 @@ advance-requires-clause-few g c =
 
 pub begin-requires-clause-lives : goal.begin-requires-clause-lives
 begin-requires-clause-lives g c =
-    lives_started g.S.Stamp.MAX c.args.tid c.args.entry _ _ c.add_with_room.new.threads _ c.self.view_is c.requires c.in_ok-add_with_room.ensures.ok c.advance.ensures
+    lives_started g.S.Stamp.MAX c.args.tid c.args.entry _ _ c.add_with_room.new.threads _ c.self.view_is c.requires c.in_ok-add_with_room.ensures.ok c.advance.ensures.advanced
 
 pub begin-requires-clause-above : goal.begin-requires-clause-above
 begin-requires-clause-above g c =
     first_above g.S.Stamp.MAX c.args.tid c.args.entry (g.S.Stamp.number_of c.from_number-now.result) _ _ c.add_with_room.new.threads _ c.self.view_is c.requires
-    c.in_ok-add_with_room.ensures.ok c.advance.ensures
+    c.in_ok-add_with_room.ensures.ok c.advance.ensures.advanced
 
 pub begin-requires-clause-room : goal.begin-requires-clause-room
 begin-requires-clause-room g c =
-    room_started g.S.Stamp.MAX c.args.tid c.args.entry _ _ c.add_with_room.new.threads _ c.self.view_is c.requires c.in_ok-add_with_room.ensures.ok c.advance.ensures
+    room_started g.S.Stamp.MAX c.args.tid c.args.entry _ _ c.add_with_room.new.threads _ c.self.view_is c.requires c.in_ok-add_with_room.ensures.ok c.advance.ensures.advanced
     c.in_ok-add_with_room.ensures.room
 
 pub invariant_of-self-2 : goal.invariant_of-self-2
-invariant_of-self-2 g c = record { marked = λ w h. c.self.invariant.marked w (sym (c.advance.ensures.covered w) ∙ h) }
+invariant_of-self-2 g c = record { marked = λ w h. c.self.invariant.marked w (sym (c.advance.ensures.advanced.covered w) ∙ h) }
 
 pub returns-clause-table : goal.returns-clause-table
 returns-clause-table g c =
     let number : g.S.Stamp.number_of c.from_number-now.result ≡ c.advance.new.counter =
-    ap g.S.Stamp.number_of c.from_number-now.ensures ∙ g.met.S.Stamp.number_back c.advance.new.counter c.advance.ensures.within in
+    ap g.S.Stamp.number_of c.from_number-now.ensures ∙ g.met.S.Stamp.number_back c.advance.new.counter c.advance.ensures.advanced.within in
     let came = c.in_ok-add_with_room.ensures in
     let begun = c.begin.ensures in
-    started_here g.S.Stamp.MAX c.args.tid c.args.entry _ _ c.add_with_room.new.threads _ c.self.view_is c.requires c.in_ok-add_with_room.ensures.ok c.advance.ensures
+    started_here g.S.Stamp.MAX c.args.tid c.args.entry _ _ c.add_with_room.new.threads _ c.self.view_is c.requires c.in_ok-add_with_room.ensures.ok c.advance.ensures.advanced
     (g.S.Stamp.number_of c.from_number-now.result) c.number-self-inside.result c.begin.new.self
     number c.number-self-inside.ensures.same came.list came.counts begun.threads begun.list begun.counts

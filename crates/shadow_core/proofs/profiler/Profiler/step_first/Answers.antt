@@ -28,31 +28,31 @@ advance-requires-clause-few g c =
 pub add_steps-requires-clause-lives : goal.add_steps-requires-clause-lives
 add_steps-requires-clause-lives g c =
     let may = subst (λ (k : State). MayTake (StandsFor g.S.Stamp.MAX) k (Step c.args.tid)) (sym c.self.view_is) c.requires in
-    lives_after g.S.Stamp.MAX c.args.tid c.is_switch.result _ _ may c.advance.ensures
+    lives_after g.S.Stamp.MAX c.args.tid c.is_switch.result _ _ may c.advance.ensures.advanced
 
 pub add_steps-requires-clause-fits : goal.add_steps-requires-clause-fits
 add_steps-requires-clause-fits g c =
     let may = subst (λ (k : State). MayTake (StandsFor g.S.Stamp.MAX) k (Step c.args.tid)) (sym c.self.view_is) c.requires in
-    step_fits g.S.Stamp.MAX c.args.tid c.is_switch.result _ _ may c.advance.ensures
+    step_fits g.S.Stamp.MAX c.args.tid c.is_switch.result _ _ may c.advance.ensures.advanced
 
 pub invariant_of-self : goal.invariant_of-self
-invariant_of-self g c = record { marked = λ w h. c.self.invariant.marked w (sym (c.advance.ensures.covered w) ∙ h) }
+invariant_of-self g c = record { marked = λ w h. c.self.invariant.marked w (sym (c.advance.ensures.advanced.covered w) ∙ h) }
 
 pub returns-clause-table : goal.returns-clause-table
 returns-clause-table g c =
     let may = subst (λ (k : State). MayTake (StandsFor g.S.Stamp.MAX) k (Step c.args.tid)) (sym c.self.view_is) c.requires in
     stepped g.S.Stamp.MAX c.args.tid c.is_switch.result _ c.add_steps.new.self _ may
-    c.is_switch.ensures c.advance.ensures c.add_steps.ensures
+    c.is_switch.ensures c.advance.ensures.advanced c.add_steps.ensures
     ∙ ap (λ (k : State). table_after (bounded_tick g.S.Stamp.MAX) (Step c.args.tid) (table_of_state k)) c.self.view_is
 
 pub returns-clause-pages : goal.returns-clause-pages
 returns-clause-pages g c =
     let may = subst (λ (k : State). MayTake (StandsFor g.S.Stamp.MAX) k (Step c.args.tid)) (sym c.self.view_is) c.requires in
-    let lives = lives_after g.S.Stamp.MAX c.args.tid c.is_switch.result _ _ may c.advance.ensures in
+    let lives = lives_after g.S.Stamp.MAX c.args.tid c.is_switch.result _ _ may c.advance.ensures.advanced in
     seen_same c.self.view_is (record {
-      writes = c.advance.ensures.covered;
+      writes = c.advance.ensures.advanced.covered;
       marks = λ w. refl;
       accesses = λ u w.
           calls_alike c.advance.new.threads c.add_steps.new.self c.args.tid _ lives c.add_steps.ensures u w
-          ∙ advanced_alike g.S.Stamp.MAX c.is_switch.result _ _ c.advance.ensures u w;
+          ∙ advanced_alike g.S.Stamp.MAX c.is_switch.result _ _ c.advance.ensures.advanced u w;
     })

@@ -1,6 +1,6 @@
 use Rattle.std.proofs.Common.{◌≡◌, ◌∙◌, ◌==◌, ◌<◌, ◌/◌, ◌++◌, ℕ, Bool, false, ap, arith, get_or, length, map, subst, sym}
 use Rattle.std.proofs.lemmas.Bool.Decides.{nat_tests}
-use Rattle.std.proofs.lemmas.List.{get_or-map, length-map, map-append}
+use Rattle.std.proofs.lemmas.List.{get_or-map, length-append, length-map, map-append}
 use Rattle.shadow_pages.specs.declared.shadow.Page.{Page as Kept}
 use Rattle.shadow_pages.specs.Directory.{HasTable}
 use Rattle.shadow_pages.specs.Pages.{AreFresh, AreKept, IsIndexed, Page, Pages, covers, stamp_at}
@@ -116,3 +116,14 @@ returns-clause-kept g c = λ w has.
     let old_are : map look items ≡ c.args.self.now.pages = ap (λ (s : Pages). s.pages) c.self.view_is in
     let added = ap (map look) c.in_ok-append.ensures.items ∙ map-append look items fresh ∙ ap (λ ps. ps ++ map look fresh) old_are in
     ap (λ ps. covers ps w) added ∙ left_has c.args.self.now.pages (map look fresh) (w / 1024) has
+
+pub returns-clause-few : goal.returns-clause-few
+returns-clause-few g c =
+    let look : Kept g.row.S.Denot → Page = seen (λ p. p.number) (λ p. map g.S.Stamp.number_of p.stamps.items) in
+    let items = c.self.inside.pages.items in
+    let fresh = c.in_ok-fresh.fresh.items in
+    let old_are : map look items ≡ c.args.self.now.pages = ap (λ (s : Pages). s.pages) c.self.view_is in
+    let added = ap (map look) c.in_ok-append.ensures.items ∙ map-append look items fresh ∙ ap (λ ps. ps ++ map look fresh) old_are in
+    let long = ap length added ∙ length-append c.args.self.now.pages (map look fresh) in
+    let size : length (map look fresh) ≡ length fresh = length-map fresh look in
+    omega (arith, long, size, c.in_ok-fresh.fresh.ok.0, c.in_ok-fresh.ensures.few, c.page_range-low.ensures.few)

@@ -1,6 +1,7 @@
-use Rattle.std.proofs.Common.{map, sym, subst, All}
+use Rattle.std.proofs.Common.{ap, arith, map, sym, subst, All}
 use Rattle.std.specs.Prelude.{Contains}
 use Rattle.shadow_stack.specs.Frames.{starts_of}
+use Rattle.stamp_renumber.specs.Costs.{stamps_of}
 use Rattle.stamp_renumber.specs.Renumbered.{IsThreadRenumbered}
 use Rattle.stamp_renumber.specs.Threads.{Stamped}
 use Rattle.stamp_renumber.proofs.thread_stamps.ThreadStamps.renumber.Goals as goal
@@ -18,3 +19,8 @@ returns-clause-thread g c =
       covered = c.renew_accesses.ensures.covered;
       calls = λ i. record { list = c.renew_frames.ensures.calls i; counts = c.self.inside.counts };
     })
+
+pub returns-clause-cost : goal.returns-clause-cost
+returns-clause-cost g c =
+    let is = ap stamps_of c.self.view_is in
+    omega (arith, is, c.renew_frames.ensures.cost, c.renew_accesses.ensures.cost)

@@ -1,9 +1,10 @@
 use Rattle.std.proofs.Common.{◌≡◌, ◌∙◌, ℕ, List, length, map, Some, ap, sym, subst, arith, All}
-use Rattle.std.specs.Prelude.{Contains}
+use Rattle.std.specs.Prelude.{Contains, sum_by}
 use Rattle.std.specs.List.Sorted.{IsPermutation}
 use Rattle.std.proofs.lemmas.List.{length-map}
 use Rattle.std.proofs.lemmas.List.Sorted.{length_permutation}
 use Rattle.guest_words.specs.ByThread.{IsRising, value_of}
+use Rattle.stamp_renumber.specs.Costs.{stamps_of}
 use Rattle.stamp_renumber.specs.Renumbered.{IsThreadRenumbered}
 use Rattle.stamp_renumber.specs.Threads.{Live, Stamped, all_starts}
 use Rattle.stamp_renumber.specs.Ticks.{IsRenumbered}
@@ -90,3 +91,8 @@ returns-clause-all g c =
       stamps = λ w. c.renew_writes.ensures.stamps w ∙ ap (λ (ys : List ℕ). new_write ys (stamp_at writes w)) second ∙ same_write (all_starts xs) (map f sorted) same (stamp_at writes w);
       covered = c.renew_writes.ensures.covered;
     })
+
+pub returns-clause-cost : goal.returns-clause-cost
+returns-clause-cost g c =
+    let is = ap (λ (l : Live). sum_by (λ x. stamps_of x.1) l.threads) c.self.view_is in
+    omega (arith, is, c.renumber_threads.ensures.cost, c.renew_writes.ensures.cost)

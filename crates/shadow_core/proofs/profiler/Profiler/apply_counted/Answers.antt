@@ -1,6 +1,6 @@
 use Rattle.std.proofs.Common.{◌∙◌, sym}
 use Rattle.shadow_core.proofs.Applied.{taken}
-use Rattle.shadow_core.proofs.profiler.Profiler.apply.Goals as goal
+use Rattle.shadow_core.proofs.profiler.Profiler.apply_counted.Goals as goal
 
 pub returns-in_err-take-clause-deep : goal.returns-in_err-take-clause-deep
 returns-in_err-take-clause-deep g c = λ past stands deep.

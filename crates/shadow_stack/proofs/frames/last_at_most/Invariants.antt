@@ -1,4 +1,0 @@
-use Rattle.shadow_stack.proofs.frames.last_at_most.Given as goal
-
-abbrev pub ghosts-find_with : goal.ghosts-find_with
-ghosts-find_with g a = record { name = a.blank.name; parts = a.blank.parts }
