@@ -1,14 +1,16 @@
 //! The profile of a run that goes on.
-ghost use Rattle.std.specs.Prelude.{◌≡◌, ◌≤◌, ◌∷◌, [], List, None, true, false, Ok, IfOk, IsOk, OnErr, OnOk};
+ghost use Rattle.std.specs.Prelude.{◌≡◌, ◌≤◌, ◌∷◌, [], List, None, Some, true, false, Ok, IfOk, IsOk, OnErr, OnOk};
+ghost use Rattle.std.specs.Option.{option_map_or};
 ghost use Rattle.trace_model.specs.declared.event_kinds.Event.{Event};
 ghost use Rattle.trace_model.specs.declared.event_kinds.Event.TheVariants.{Call, Read, Ret, Write};
-ghost use Rattle.std.specs.Vec.{vec_capacity};
+ghost use Rattle.trace_model.specs.declared.observer.Answer.TheVariants.{Taken};
 ghost use Rattle.trace_model.specs.declared.observer.Observed.{Observed};
 ghost use Rattle.trace_model.specs.Depth.{is_within};
 ghost use Rattle.trace_model.specs.Observing.{MayStepBy, MayTake, MayTakeAfter, Observes, ObservesAfter, StandsAsBefore, StepsBy, result_of, with_steps};
 ghost use Rattle.trace_model.specs.Profile.{ended, steps};
 ghost use Rattle.shadow_core.specs.Applying.{IsTaken};
 ghost use Rattle.shadow_core.specs.State.{State};
+ghost use Rattle.run_profile.specs.Keeping.{MayKeep};
 ghost use Rattle.run_profile.specs.Private.Passing.{IsSettled, MayPass, ends_none};
 ghost use Rattle.run_profile.specs.Profile.{AreCountsOf, IsOfFormed, IsProfileOf};
 
@@ -27,13 +29,16 @@ pub struct Profile<S: Lanes, K: Keeper> {
     profiler: Profiler<S>,
     kept: K,
     // The newest event, where the keeper is still to take it: an event that was taken is not refused for lack of a point or a
-    // context. And what ended at the newest event.
+    // context. And what ended at the newest event: a return that the profiler takes by its quick way ends one activation.
     next: Option<Event>,
+    one: Option<Done>,
     ended: Vec<Done>,
     steps: u64,
 }
 
 impl<S: Lanes, K: Keeper> Model for Profile<S, K> {
+    ghost use Rattle.std.specs.Prelude.{◌∷◌, []};
+    ghost use Rattle.std.specs.Option.{option_map_or};
     ghost use Rattle.shadow_core.specs.Applying.{IsTaken};
     ghost use Rattle.shadow_core.specs.State.{State};
     ghost use Rattle.run_profile.specs.Private.Passing.{IsSettled, MayPass, ends_none};
@@ -45,7 +50,7 @@ impl<S: Lanes, K: Keeper> Model for Profile<S, K> {
       stamps = p.profiler;
       kept = p.kept;
       next = p.next;
-      ended = p.ended.items;
+      ended = option_map_or (λ one. one ∷ []) p.one p.ended.items;
       steps = p.steps;
     } };
 }
@@ -61,24 +66,13 @@ fn steps_of(e: &Event) -> u64
     }
 }
 
-// The list gets one element, for which it has room.
-#[inline(never)]
-fn make_only(list: &mut Vec<Done>, one: Done)
-    requires { 1 ≤ vec_capacity list.old }
-    ensures { list.new.items ≡ one ∷ [] }
-{
-    list.clear();
-    list.push(one).unwrap();
-}
-
-// The same. The element is copied here, so that the compiler need not have it in memory where the list does not get it.
+// Keeps a copy.
 #[inline(always)]
-fn keep_only(list: &mut Vec<Done>, one: &Done)
-    requires { 1 ≤ vec_capacity list.old }
-    ensures { list.new.items ≡ one.now ∷ [] }
+fn keep_one(place: &mut Option<Done>, one: &Done)
+    ensures { place.new ≡ Some one.now }
 {
     let copy = *one;
-    make_only(list, copy);
+    *place = Some(copy);
 }
 
 impl<S: Lanes, K: Keeper> Profile<S, K> {
@@ -93,6 +87,7 @@ impl<S: Lanes, K: Keeper> Profile<S, K> {
             profiler,
             kept,
             next: None,
+            one: None,
             ended: Vec::new(alloc),
             steps: 0,
         })
@@ -127,20 +122,40 @@ impl<S: Lanes, K: Keeper> Profile<S, K> {
         ensures nothing { self.old.next ≡ None → IsOk result }
     {
         if let Some(e) = self.next {
-            self.kept.take(e, &self.ended)?;
+            self.take_newest(e)?;
             self.next = None;
         }
         Ok(())
     }
 
+    // Has the keeper take the newest event, with what ended at it.
+    fn take_newest(&mut self, e: Event) -> Result<(), AllocError>
+        requires { MayKeep K.holds self.old.kept self.old.ended e self.old.ended }
+        ensures same { self.new ≡ (record self.old { kept = self.new.kept }) }
+        ensures taken { (past : List Event) → K.holds self.old.kept past self.old.ended → self.old.ended ≡ ended e past
+            → OnOk result (K.holds self.new.kept (e ∷ past) []) }
+        ensures refused { (past : List Event) → K.holds self.old.kept past self.old.ended
+            → OnErr result (K.holds self.new.kept past self.old.ended) }
+        ensures no_allocation { (past : List Event) → K.holds self.old.kept past self.old.ended
+            → K.is_too_much (e ∷ past) → IsOk result }
+    {
+        if let Some(one) = self.one {
+            let ends = [one];
+            return self.kept.take(e, &ends);
+        }
+        self.kept.take(e, &self.ended)
+    }
+
     // The same behind an event that was taken. If the keeper is out of memory now, it is asked again before the next event.
     #[inline(never)]
-    fn hand_on(&mut self)
+    fn hand_on(&mut self) -> Answer
         requires { IsOfFormed S.MAX K.holds self.old }
-        ensures { (past : List Event) → IsProfileOf S.MAX K.holds self.old past
+        ensures stands { (past : List Event) → IsProfileOf S.MAX K.holds self.old past
             → IsProfileOf S.MAX K.holds self.new past }
+        ensures taken { result ≡ Taken }
     {
         let _ = self.settle_next();
+        Answer::Taken
     }
 
     // The same before an event, and true; but false, with nothing handed on, where this event is too deep. Where the keeper
@@ -243,6 +258,7 @@ impl<S: Lanes, K: Keeper> Profile<S, K> {
         self.steps += count;
         self.kept.take_steps(tid, count);
         if !self.kept.pass(&e, &[]) {
+            self.one = None;
             self.ended.clear();
             self.next = Some(e);
         }
@@ -327,9 +343,6 @@ impl<S: Lanes, K: Keeper> Profile<S, K> {
         if self.next.is_some() {
             return self.return_apart(tid, count, target);
         }
-        if self.ended.capacity() < 1 {
-            return self.return_apart(tid, count, target);
-        }
         match self.profiler.return_after(tid, count, target) {
             Some(ended) => {
                 self.steps += count;
@@ -338,10 +351,9 @@ impl<S: Lanes, K: Keeper> Profile<S, K> {
                 if self.kept.pass(&e, &ends) {
                     return Answer::Taken;
                 }
-                keep_only(&mut self.ended, &ends[0]);
+                keep_one(&mut self.one, &ends[0]);
                 self.next = Some(e);
-                self.hand_on();
-                Answer::Taken
+                self.hand_on()
             }
             None => self.return_apart(tid, count, target),
         }
@@ -404,6 +416,7 @@ impl<S: Lanes, K: Keeper> Observer for Profile<S, K> {
         if !self.make_ready(&e)? {
             return Ok(Observed::Refused);
         }
+        self.one = None;
         self.ended.clear();
         match self.profiler.apply(e, &mut self.ended) {
             Ok(()) => {

@@ -22,5 +22,5 @@ pub returns-else-not-pass-clause-passed : goal.returns-else-not-pass-clause-pass
 returns-else-not-pass-clause-passed g c = λ past stamps settled taken.
     let own = subst (λ (k : KeptRun g.row.K.Denot). IsSettled g.K.Keeper.holds k past) (sym c.self.view_is) settled in
     passed_after g.S.Stamp.MAX g.K.Keeper.holds c.args.tid c.args.count _ past own c.args.e (no_step c.args.e c.requires.open) stamps [] taken c.pass.new.self
-    c.self.inside.ended.items
+    _
     (c.if-not-pass.ensures.passes (with_steps c.args.tid c.args.count past) (c.take_steps.ensures past own.kept) taken.recorded)
