@@ -11,7 +11,7 @@ use Rattle.shadow_stack.specs.Costs.{is_old, most_compared}
 use Rattle.shadow_stack.specs.Frames.{Frame, starts_of}
 use Rattle.stamp_renumber.specs.Costs.{stamps_of}
 use Rattle.stamp_renumber.specs.Threads.{Live, Stamped, frames_of, pages_of}
-use Rattle.shadow_core.specs.Costs.{HasDigits, old_words}
+use Rattle.shadow_core.specs.Costs.{old_words}
 use Rattle.shadow_core.specs.Private.Reading.{IsRead, IsReadWithin}
 use Rattle.shadow_core.proofs.Reading.{length_read, not_before, range_append, starts_read}
 

@@ -46,7 +46,7 @@ hand_on-requires g c =
     record {
       past = Ret c.args.tid c.args.target ∷ later;
       now = waits_after g.S.Stamp.MAX g.K.Keeper.holds c.args.tid c.args.count _ may.past own (Ret c.args.tid c.args.target) refl new ends taken c.pass.new.self _
-        (ap (λ (o : Option Done). option_map_or (λ one. one ∷ []) o c.self.inside.ended.items) c.keep_one.ensures)
+          (ap (λ (o : Option Done). option_map_or (λ one. one ∷ []) o c.self.inside.ended.items) c.keep_one.ensures)
           (c.if-pass.ensures.passes later (c.take_steps.ensures may.past own.kept) taken.recorded);
       formed = may.formed;
     }
@@ -65,7 +65,7 @@ returns-else-pass g c = record {
       let ends = c.in-Some.ended ∷ [] in
       let taken = c.in-Some.ensures.stands past p.stands in
       let waits = waits_after g.S.Stamp.MAX g.K.Keeper.holds c.args.tid c.args.count _ past own (Ret c.args.tid c.args.target) refl new ends taken c.pass.new.self _
-        (ap (λ (o : Option Done). option_map_or (λ one. one ∷ []) o c.self.inside.ended.items) c.keep_one.ensures)
+      (ap (λ (o : Option Done). option_map_or (λ one. one ∷ []) o c.self.inside.ended.items) c.keep_one.ensures)
       (c.if-pass.ensures.passes later (c.take_steps.ensures past own.kept) taken.recorded) in
       (c.hand_on.ensures.stands (Ret c.args.tid c.args.target ∷ later) waits, taken.fits));
 }
