@@ -12,7 +12,7 @@ ghost use Rattle.trace_model.specs.declared.observer.Observed.TheVariants.{Taken
 ghost use Rattle.trace_model.specs.Observing.{MayTakeAll, ObservesAll, result_of};
 ghost use Rattle.guest_machine.specs.Private.Carrying.{Carries, IsStateOf, JumpsTo, MayCarry, ObservesFrom};
 ghost use Rattle.guest_machine.specs.Private.Making.{made_answer, made_row};
-ghost use Rattle.guest_machine.specs.Private.Rows.{Counts, IsPaused, MayCount, MayRun, RunsOn, answer_of, further_of, handed, tried_answer, tried_row};
+ghost use Rattle.guest_machine.specs.Private.Rows.{Counts, IsPaused, MakesNext, MayCount, MayRun, RunsOn, answer_of, further_of, handed, tried_answer, tried_row};
 ghost use Rattle.guest_machine.specs.Machine.{MachineState};
 ghost use Rattle.guest_machine.specs.Step.{jump_events};
 ghost use Rattle.guest_machine.specs.Told.{IsInstruction, done_by, steps_of};
@@ -280,15 +280,8 @@ fn run_any_load<W: Observer>(
     requires run { (held : Reservations) × MayRun W.stands (W.fits observer.old) tid row.old
         (exec_state_of (with_pc pc.old cpu.old) memory.now held) observer.old }
     requires within { row.old.plain < row.old.left }
-    ensures runs { (held : Reservations) → RunsOn W.stands (W.fits observer.old) tid
-        row.old (exec_state_of (with_pc pc.old cpu.old) memory.now held) observer.old
-        row.new (exec_state_of (with_pc pc.new cpu.new) memory.now held) observer.new
-        (answer_of result) }
-    ensures next { IsPaused (memory_of memory.now) pc.new row.new result }
-    ensures grows { row.old.told + row.old.plain ≤ row.new.told + row.new.plain }
-    ensures further { result ≡ Paused.Went → row.old.told + row.old.plain < row.new.told + row.new.plain }
-    ensures whole { row.new.told + row.new.left ≡ row.old.told + row.old.left }
-    ensures same { W.fits observer.new ≡ W.fits observer.old }
+    ensures { MakesNext W.stands W.fits tid memory.now row.old pc.old cpu.old observer.old
+        row.new pc.new cpu.new observer.new result }
 {
     let steps = row.due();
     let made = make_load(
@@ -320,15 +313,8 @@ fn run_load<W: Observer>(
     requires run { (held : Reservations) × MayRun W.stands (W.fits observer.old) tid row.old
         (exec_state_of (with_pc pc.old cpu.old) memory.now held) observer.old }
     requires within { row.old.plain < row.old.left }
-    ensures runs { (held : Reservations) → RunsOn W.stands (W.fits observer.old) tid
-        row.old (exec_state_of (with_pc pc.old cpu.old) memory.now held) observer.old
-        row.new (exec_state_of (with_pc pc.new cpu.new) memory.now held) observer.new
-        (answer_of result) }
-    ensures next { IsPaused (memory_of memory.now) pc.new row.new result }
-    ensures grows { row.old.told + row.old.plain ≤ row.new.told + row.new.plain }
-    ensures further { result ≡ Paused.Went → row.old.told + row.old.plain < row.new.told + row.new.plain }
-    ensures whole { row.new.told + row.new.left ≡ row.old.told + row.old.left }
-    ensures same { W.fits observer.new ≡ W.fits observer.old }
+    ensures { MakesNext W.stands W.fits tid memory.now row.old pc.old cpu.old observer.old
+        row.new pc.new cpu.new observer.new result }
 {
     match try_load(pc, cpu, memory, tid, kind, rd, base, offset, row, observer) {
         Tried::Taken => Paused::Went,
@@ -357,15 +343,8 @@ fn run_jump<W: Observer>(
     requires run { (held : Reservations) × MayRun W.stands (W.fits observer.old) tid row.old
         (exec_state_of (with_pc pc.old cpu.old) memory.now held) observer.old }
     requires within { row.old.plain < row.old.left }
-    ensures runs { (held : Reservations) → RunsOn W.stands (W.fits observer.old) tid
-        row.old (exec_state_of (with_pc pc.old cpu.old) memory.now held) observer.old
-        row.new (exec_state_of (with_pc pc.new cpu.new) memory.now held) observer.new
-        (answer_of result) }
-    ensures next { IsPaused (memory_of memory.now) pc.new row.new result }
-    ensures grows { row.old.told + row.old.plain ≤ row.new.told + row.new.plain }
-    ensures further { result ≡ Paused.Went → row.old.told + row.old.plain < row.new.told + row.new.plain }
-    ensures whole { row.new.told + row.new.left ≡ row.old.told + row.old.left }
-    ensures same { W.fits observer.new ≡ W.fits observer.old }
+    ensures { MakesNext W.stands W.fits tid memory.now row.old pc.old cpu.old observer.old
+        row.new pc.new cpu.new observer.new result }
 {
     let _ = memory; // of which the contract speaks
     let back = pc.address().wrapping_add(4);
@@ -399,15 +378,8 @@ fn run_decoded<W: Observer>(
     requires run { (held : Reservations) × MayRun W.stands (W.fits observer.old) tid row.old
         (exec_state_of (with_pc pc.old cpu.old) memory.now held) observer.old }
     requires within { row.old.plain < row.old.left }
-    ensures runs { (held : Reservations) → RunsOn W.stands (W.fits observer.old) tid
-        row.old (exec_state_of (with_pc pc.old cpu.old) memory.now held) observer.old
-        row.new (exec_state_of (with_pc pc.new cpu.new) memory.now held) observer.new
-        (answer_of result) }
-    ensures next { IsPaused (memory_of memory.now) pc.new row.new result }
-    ensures grows { row.old.told + row.old.plain ≤ row.new.told + row.new.plain }
-    ensures further { result ≡ Paused.Went → row.old.told + row.old.plain < row.new.told + row.new.plain }
-    ensures whole { row.new.told + row.new.left ≡ row.old.told + row.old.left }
-    ensures same { W.fits observer.new ≡ W.fits observer.old }
+    ensures { MakesNext W.stands W.fits tid memory.now row.old pc.old cpu.old observer.old
+        row.new pc.new cpu.new observer.new result }
 {
     match *decoded {
         Decoded::Jal { rd, offset } => {

@@ -2,8 +2,12 @@
 use Rattle.std.specs.Prelude.{◌≡◌, ℕ, ◌+◌, ◌-◌, ◌<◌, ◌≤◌, Bool, List, Option, None, Some, Result, Ok, Err}
 use Rattle.std.specs.Allocator.{alloc_error}
 use Rattle.std.specs.declared.alloc.AllocError.{AllocError}
-use Rattle.rv_exec.specs.Effects.{ExecState}
+use Rattle.rv_exec.specs.Effects.{ExecState, exec_state_of}
+use Rattle.rv_exec.specs.Registers.{Registers, with_pc}
 use Rattle.guest_memory.specs.Code.{IsInstructionAt}
+use Rattle.guest_memory.specs.Guest.{memory_of}
+use Rattle.guest_memory.specs.declared.memory.GuestMemory.{GuestMemory}
+use Rattle.guest_memory.specs.declared.reservations.Reservations.{Reservations}
 use Rattle.rv_isa.specs.declared.instruction.Instr.TheVariants.{Store}
 use Rattle.guest_memory.specs.Memory.{Memory}
 use Rattle.trace_model.specs.declared.event_kinds.Event.{Event}
@@ -88,6 +92,24 @@ IsPaused m pc row (paused.Store kind value base offset) = (row.plain < row.left)
 IsPaused m pc row paused.Elsewhere = row.plain < row.left
 IsPaused m pc row paused.Stops = Unit {0}
 IsPaused m pc row paused.OutOfMemory = Unit {0}
+
+-- The next instruction of a row, which writes no memory, was made or not, as the result says. The row, the program counter, the
+-- other registers and the observer are given before and after.
+pub record MakesNext {O : Type 0} (Stands : O → List Event → Type 0) (fits : O → List Event → Bool) (tid : ℕ) (memory : GuestMemory)
+    (row : Row) (pc : ℕ) (cpu : Registers) (now : O) (row' : Row) (pc' : ℕ) (cpu' : Registers) (later : O) (result : Paused) : Type 0 where
+  -- any row that led here leads on, whatever is reserved
+  pub runs : (held : Reservations) → RunsOn Stands (fits now) tid row (exec_state_of (with_pc pc cpu) memory held) now
+      row' (exec_state_of (with_pc pc' cpu') memory held) later (answer_of result)
+  -- what is known of the instruction where the row stands now
+  pub next : IsPaused (memory_of memory) pc' row' result
+  -- no step of the row is lost
+  pub grows : row.told + row.plain ≤ row'.told + row'.plain
+  -- where the instruction went, the row has more steps
+  pub further : result ≡ paused.Went → row.told + row.plain < row'.told + row'.plain
+  -- as many steps may be made in all as before
+  pub whole : row'.told + row'.left ≡ row.told + row.left
+  -- the observer takes the same events as before
+  pub same : fits later ≡ fits now
 
 abbrev pub further_of : Further → Result Observed AllocError
 further_of further.Refused = Ok observed.Refused

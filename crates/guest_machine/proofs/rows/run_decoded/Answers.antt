@@ -1,4 +1,4 @@
-use Rattle.std.proofs.Common.{rules, ◌≡◌, ◌*◌, ◌/◌, IfSome, ap, subst}
+use Rattle.std.proofs.Common.{rules, ◌≡◌, ◌<◌, ◌+◌, ◌*◌, ◌/◌, IfSome, ap, refl, subst, arith}
 use Rattle.std.proofs.lemmas.Int.{to_z-of_z}
 use Rattle.guest_memory.specs.Code.{IsInstructionAt, known_of}
 use Rattle.guest_memory.specs.Guest.{memory_of}
@@ -27,3 +27,33 @@ run_jump-requires-in-Jalr-clause-known g c =
       jalr_jumps (with_pc c.args.pc.now c.args.cpu.now) c.in-Jalr.rd c.in-Jalr.base (c.add_offset.result / 2 * 2) c.in-Jalr.offset c.kind-jump-in-Jalr.result
           (ap (λ n. n / 2 * 2) at) c.kind-jump-in-Jalr.ensures,
     )
+
+pub returns-in-Sb : goal.returns-in-Sb
+returns-in-Sb g c = record {
+  runs = λ held first old most run. run;
+  next = search (rules, to_z-of_z);
+  grows = omega arith;
+  further = λ went. absurd {A = c.args.row.now.told + c.args.row.now.plain < c.args.row.now.told + c.args.row.now.plain} (cc);
+  whole = refl;
+  same = refl;
+}
+
+pub returns-in-Sh : goal.returns-in-Sh
+returns-in-Sh g c = record {
+  runs = λ held first old most run. run;
+  next = search (rules, to_z-of_z);
+  grows = omega arith;
+  further = λ went. absurd {A = c.args.row.now.told + c.args.row.now.plain < c.args.row.now.told + c.args.row.now.plain} (cc);
+  whole = refl;
+  same = refl;
+}
+
+pub returns-in-Sw : goal.returns-in-Sw
+returns-in-Sw g c = record {
+  runs = λ held first old most run. run;
+  next = search (rules, to_z-of_z);
+  grows = omega arith;
+  further = λ went. absurd {A = c.args.row.now.told + c.args.row.now.plain < c.args.row.now.told + c.args.row.now.plain} (cc);
+  whole = refl;
+  same = refl;
+}
