@@ -15,7 +15,7 @@ use Rattle.aprof_top.proofs.Statuses.{written_status}
 
 module _ (words : List (List ℕ)) (status : ℕ) (before after : Outside) where
   -- unless memory ran out, the status is the end's
-  own : (end : End) → EndsBy words end status before after → (status ≡ 10 → ⊥) → status ≡ end_status end
+  pub own : (end : End) → EndsBy words end status before after → (status ≡ 10 → ⊥) → status ≡ end_status end
   own end ends had_memory = by ends.told
     where
       by : LastText end status ends.err after.err → status ≡ end_status end
