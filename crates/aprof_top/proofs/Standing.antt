@@ -124,7 +124,10 @@ path_failed : (stores : List (List ℕ × List ℕ)) (old new : FilesState) (fai
 path_failed stores old new fails = fails.failed.failed.failed_paths ∙ ap (with_path fails.store.0) (with_stores-paths (take fails.count stores) old)
 
 failed_paths : (stores : List (List ℕ × List ℕ)) (old new : FilesState) → StoreFails stores old new → FailedAtStore stores old new
-failed_paths stores old new fails = (fails.count, fails.store, fails.next, path_failed stores old new fails)
+failed_paths stores old new fails = (
+  record { count = fails.count; store = fails.store; next = fails.next; left = fails.failed.left; contents = fails.failed.contents },
+  path_failed stores old new fails,
+)
 
 store_rose : (stores : List (List ℕ × List ℕ)) (old new : FilesState) → StoreFails stores old new → Rose old.faults new.faults
 store_rose stores old new fails = subst (λ n. Rose n new.faults) (with_stores-faults (take fails.count stores) old) fails.failed.failed.faults

@@ -68,10 +68,9 @@ pub record GainedPath (path : List ℕ) (old new : FilesState) : Type 0 where
   pub told : old.failed_paths ≡ Some earlier
   pub gained : new.failed_paths ≡ Some (earlier ++ path ∷ [])
 
--- the call failed at a store: a told list of failed paths gained its path
+-- the call failed at the next store: its path has anything, and a told list of failed paths gained it
 abbrev pub FailedAtStore : List (List ℕ × List ℕ) → FilesState → FilesState → Type 0
-FailedAtStore stores old new =
-    (place : ℕ) × (store : List ℕ × List ℕ) × (slice_get stores place ≡ Some store) × (new.failed_paths ≡ with_path store.0 old.failed_paths)
+FailedAtStore stores old new = (first : HaveFirstBut stores old new) × (new.failed_paths ≡ with_path first.store.0 old.failed_paths)
 
 -- ---- what a call had found and decided when it ended
 -- the decision whose outcome it handed out, or a part of that
