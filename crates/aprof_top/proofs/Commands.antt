@@ -56,7 +56,7 @@ complete_stage loads files few all =
 
 -- ---- refusals
 -- a verdict that stores nothing was reached, and the sinks are untouched
-refused_by : (words : List (List ℕ)) (v : verdicts.Verdict) (files now : FilesState) (out err : SinkState) (found : Found words (outside files out err) (outside now out err)) → IsOutcome found.asked found.files (refusal v) → (now ≡ files) ⊎ ((v ≡ verdict.TooLarge) × MetTooLong files now) → Reaches words (Decided v) (outside files out err) (outside now out err)
+refused_by : (words : List (List ℕ)) (v : verdicts.Verdict) (files now : FilesState) (out err : SinkState) (found : Found words files now) → IsOutcome found.asked found.files (refusal v) → (now ≡ files) ⊎ ((v ≡ verdict.TooLarge) × MetTooLong files now) → Reaches words (Decided v) (outside files out err) (outside now out err)
 refused_by words v files now out err found written unchanged = (
   record { found = found; outcome = refusal v; written = written },
   refl,
@@ -71,7 +71,7 @@ Reaches-bad_command words files out err asks =
 -- no command was made of the words
 pub Reaches-unread : (words : List (List ℕ)) (e : CommandError) (outside' : Outside) → (e ≡ command.Refused → AsksFor words None) → (e ≡ command.Memory → list_any has_zero words ≡ false) → Reaches words (ended (of_command e)) outside' outside'
 Reaches-unread words command.Refused o asks zero = Reaches-bad_command words o.files o.out o.err (asks refl)
-Reaches-unread words command.Memory o asks zero = record { no_zero = zero refl; done = inl refl }
+Reaches-unread words command.Memory o asks zero = record { no_zero = zero refl; decision = None; done = refl }
 
 -- ---- a command: before its loads and after them; its sinks are untouched
 module _ (asked : Asked) (files mid : FilesState) (out err : SinkState) where
@@ -106,14 +106,14 @@ module _ (asked : Asked) (files mid : FilesState) (out err : SinkState) where
       by (inr met) = inr (too_large, met)
   AskedEnds-unloaded (Ended ending.CannotWrite) fails words asks = absurd fails
   AskedEnds-unloaded (Ended ending.CannotPut) fails words asks = absurd fails
-  AskedEnds-unloaded (Ended ending.OutOfMemory) same words asks = record { no_zero = no_zero words asked asks; done = inl (ap (λ f. outside f out err) same) }
+  AskedEnds-unloaded (Ended ending.OutOfMemory) same words asks = record { no_zero = no_zero words asked asks; decision = None; done = ap (λ f. outside f out err) same }
 
   -- all was loaded
   module _ (loaded : Loaded) (all : LoadsAll loads files mid loaded) where
     abbrev Is : Outcome → Type 0
     Is = IsAnswer asked loaded
 
-    abbrev decision : (words : List (List ℕ)) (after : Outside) (outcome : Outcome) → AsksFor words (Some asked) → Is outcome → Decision words before after
+    abbrev decision : (words : List (List ℕ)) (after : Outside) (outcome : Outcome) → AsksFor words (Some asked) → Is outcome → Decision words files after.files
     decision words after outcome asks is = record {
       found = record { asked = Some asked; asks = asks; files = all.files; held = all.first.held; limit = inl all.first.each };
       outcome = outcome;
@@ -124,8 +124,8 @@ module _ (asked : Asked) (files mid : FilesState) (out err : SinkState) where
     handed after (ending.Decided v) hands words asks = (decision words after hands.outcome asks hands.is, hands.delivered.0, hands.delivered.1)
     handed after ending.CannotWrite hands words asks = record { decision = decision words after hands.outcome asks hands.is; ran = hands.delivered.0; fails = hands.delivered.1 }
     handed after ending.CannotPut hands words asks = record { decision = decision words after hands.outcome asks hands.is; ran = hands.delivered.0; fails = hands.delivered.1 }
-    handed after ending.OutOfMemory (inl same) words asks = record { no_zero = no_zero words asked asks; done = inl same }
-    handed after ending.OutOfMemory (inr hands) words asks = record { no_zero = no_zero words asked asks; done = inr (decision words after hands.outcome asks hands.is, hands.delivered) }
+    handed after ending.OutOfMemory (inl same) words asks = record { no_zero = no_zero words asked asks; decision = None; done = same }
+    handed after ending.OutOfMemory (inr hands) words asks = record { no_zero = no_zero words asked asks; decision = Some (decision words after hands.outcome asks hands.is); done = hands.delivered }
 
     -- and what is asked was done
     pub AskedEnds-done : (after : Outside) (e : declared.Ending) → HandsOut Is between after e → AskedEnds asked before after (ended e)

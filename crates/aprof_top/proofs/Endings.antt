@@ -15,14 +15,14 @@ use Rattle.aprof_top.proofs.Statuses.{written_status}
 
 module _ (words : List (List ℕ)) (status : ℕ) (before after : Outside) where
   -- unless memory ran out, the status is the end's
-  own : (end : End) → EndsBy words end status before after → (status ≡ 10 → ⊥) → status ≡ end_status end
+  pub own : (end : End) → EndsBy words end status before after → (status ≡ 10 → ⊥) → status ≡ end_status end
   own end ends had_memory = by ends.told
     where
       by : LastText end status ends.err after.err → status ≡ end_status end
       by (inl tells) = tells.status_is
       by (inr wants) = absurd (had_memory wants.status_is)
 
-  pub answers : (end : End) → EndsBy words end status before after → IsWritten status → (verdict : Verdict) × EndsBy words (Decided verdict) status before after
+  answers : (end : End) → EndsBy words end status before after → IsWritten status → (verdict : Verdict) × EndsBy words (Decided verdict) status before after
   answers (Decided verdict) ends written = (verdict, ends)
   answers (CannotRead path) ends written = absurd (written.could_read (own (CannotRead path) ends written.had_memory))
   answers CannotWrite ends written = absurd (written.could_write (own CannotWrite ends written.had_memory))
@@ -33,7 +33,7 @@ module _ (words : List (List ℕ)) (status : ℕ) (before after : Outside) where
   pub is_this : (end : End) (this : ℕ) → EndsBy words end status before after → status ≡ this → (this ≡ 10 → ⊥) → this ≡ end_status end
   is_this end this ends is not_ten = let e = own end ends (λ ten. not_ten (omega (arith, is, ten))) in omega (arith, is, e)
 
-  pub cannot_read : (end : End) → EndsBy words end status before after → status ≡ 2 → (path : List ℕ) × EndsBy words (CannotRead path) status before after
+  cannot_read : (end : End) → EndsBy words end status before after → status ≡ 2 → (path : List ℕ) × EndsBy words (CannotRead path) status before after
   cannot_read (Decided verdict) ends two = absurd ((written_status verdict 2 (is_this (Decided verdict) 2 ends two (λ e. omega (arith, e)))).could_read (omega arith))
   cannot_read (CannotRead path) ends two = (path, ends)
   cannot_read CannotWrite ends two = absurd (let e = is_this CannotWrite 2 ends two (λ e. omega (arith, e)) in omega (arith, e))

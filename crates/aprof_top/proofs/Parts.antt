@@ -8,7 +8,6 @@ use Rattle.guest_kernel.specs.declared.channel.Channel.TheVariants as channel
 use Rattle.host_io.specs.Files.{FilesState, stored_in, with_path}
 use Rattle.host_io.specs.Sink.{SinkState, appended}
 use Rattle.aprof_top.specs.Delivery.{DoesAll, FailsAtStats, FailsAtStore, FailsOnErr, FailsOnOut, FailsWithin, StopsShort}
-use Rattle.aprof_top.specs.Found.{Decision, Found}
 use Rattle.aprof_top.specs.LastText.{IsPut}
 use Rattle.aprof_top.specs.Outcome.{Outcome, Write, err_of, out_of, put_on}
 use Rattle.aprof_top.specs.Outside.{Outside, outside, with_stores}
@@ -71,16 +70,9 @@ gained_is path failed old new fails gains =
     last_is (p ∷ earlier) e = last_is earlier (cc e)
 
 -- ---- what a call leaves
-module _ (words : List (List ℕ)) (before after : Outside) (mid : SinkState) where
+module _ (before after : Outside) (mid : SinkState) where
   abbrev between : Outside
   between = outside after.files after.out mid
-
-  -- what was found does not depend on `err`
-  abbrev pub found_after : Found words before between → Found words before after
-  found_after found = record { asked = found.asked; asks = found.asks; files = found.files; held = found.held; limit = found.limit }
-
-  abbrev pub decision_after : Decision words before between → Decision words before after
-  decision_after decision = record { found = found_after decision.found; outcome = decision.outcome; written = decision.written }
 
   -- a first part of bytes came to `err`, and then a first part of the text
   got_text : (bytes text : List ℕ) → GotFirst bytes before.err mid → GotFirst text mid after.err → GotFirstThen bytes text before.err after.err

@@ -1,6 +1,6 @@
 -- From how a call ends to what stands outside then.
 use Rattle.std.proofs.Common.{◌≡◌, ◌⊎◌, ℕ, zero, suc, ◌<◌, Bool, true, false, List, [], ◌∷◌, ◌++◌, Option, Some, None, refl, sym, ap, ◌∙◌, subst, inl, inr, arith, length, take, slice_get}
-use Rattle.std.specs.Option.{IfSome}
+use Rattle.std.specs.Option.{IfSome, MatchOption}
 use Rattle.std.specs.Map.{update}
 use Rattle.std.specs.Str.{bytes_eq}
 use Rattle.std.proofs.lemmas.Map.{update_same, update_other}
@@ -35,11 +35,11 @@ use Rattle.aprof_top.specs.Outcome.Stage.{PastLimit, Loading, Complete}
 use Rattle.aprof_top.specs.Outside.{Outside, outside, with_stores}
 use Rattle.aprof_top.specs.Schedules.{Reading}
 use Rattle.aprof_top.specs.Schedules.Reading.{Turns, BadLine}
-use Rattle.aprof_top.specs.Standing.{FailedAtStore, GainedPath, GotFirst, IsCalm, IsTold, IsUntouched, LacksStatistics, LeavesPart, LeavesText, Stands, StandsAfterAll, StandsAfterFault, StandsUnread}
+use Rattle.aprof_top.specs.Standing.{FailedAtStore, GainedPath, GotFirst, IsCalm, IsTold, IsUntouched, LacksStatistics, LeavesPart, LeavesText, Stands, StandsAfterAll, StandsAfterFault, StandsUnread, decision_of}
 use Rattle.aprof_top.specs.Texts.{cannot_read_text, cannot_write_text, out_of_memory_text}
 use Rattle.aprof_top.specs.Verdicts.{IsOfRun, verdict_status, verdict_text}
-use Rattle.aprof_top.proofs.Endings.{answers, cannot_read, err_rose, is_this, still}
-use Rattle.aprof_top.proofs.Parts.{decision_after, err_whole, found_after, gained_is, gains_more, no_gain, no_text, output_came, part_at_stats, part_at_store, part_done, part_on_err, part_on_out, part_short, put_part, stats_came, text_alone, with_stores-paths}
+use Rattle.aprof_top.proofs.Endings.{err_rose, is_this, own, still}
+use Rattle.aprof_top.proofs.Parts.{err_whole, gained_is, gains_more, no_gain, no_text, output_came, part_at_stats, part_at_store, part_done, part_on_err, part_on_out, part_short, put_part, stats_came, text_alone, with_stores-paths}
 use Rattle.aprof_top.proofs.Sinks.{appended-nothing, done-contents, with_stores-faults}
 use Rattle.aprof_top.proofs.Statuses.{written_status}
 use Rattle.aprof_top.proofs.StoredRuns.{run_job}
@@ -124,7 +124,10 @@ path_failed : (stores : List (List ℕ × List ℕ)) (old new : FilesState) (fai
 path_failed stores old new fails = fails.failed.failed.failed_paths ∙ ap (with_path fails.store.0) (with_stores-paths (take fails.count stores) old)
 
 failed_paths : (stores : List (List ℕ × List ℕ)) (old new : FilesState) → StoreFails stores old new → FailedAtStore stores old new
-failed_paths stores old new fails = (fails.count, fails.store, fails.next, path_failed stores old new fails)
+failed_paths stores old new fails = (
+  record { count = fails.count; store = fails.store; next = fails.next; left = fails.failed.left; contents = fails.failed.contents },
+  path_failed stores old new fails,
+)
 
 store_rose : (stores : List (List ℕ × List ℕ)) (old new : FilesState) → StoreFails stores old new → Rose old.faults new.faults
 store_rose stores old new fails = subst (λ n. Rose n new.faults) (with_stores-faults (take fails.count stores) old) fails.failed.failed.faults
@@ -173,25 +176,19 @@ module _ (words : List (List ℕ)) (status : ℕ) (before after : Outside) where
       by (inl same) = (0, ap (λ (s : SinkState). s.bytes) same)
       by (inr (some, fails)) = absurd (omega (arith, some))
 
-  -- how a call ends at status 4
-  abbrev AtFault : Type 0
-  AtFault = EndsBy words CannotWrite 4 before after ⊎ EndsBy words CannotPut 4 before after
-
-  module _ (mid : SinkState) where
-    abbrev between : Outside
-    between = outside after.files after.out mid
-
+  module _ (end : End) (ends : EndsBy words end status before after) (end_is : (end ≡ CannotWrite) ⊎ (end ≡ CannotPut)) (decision : Decision words before.files after.files) (is_of_end : decision_of end ends ≡ Some decision) (ran : IsOfRun decision.outcome.verdict) where
     -- at status 4 a store failed
-    after_store : AtFault → (decision : Decision words before between) → IsOfRun decision.outcome.verdict → GotFirst cannot_write_text mid after.err → FailsAtStore decision.outcome before between → StandsAfterFault words before after
-    after_store ends decision ran told fails =
+    after_store : GotFirst cannot_write_text ends.err after.err → FailsAtStore decision.outcome before (outside after.files after.out ends.err) → StandsAfterFault end ends
+    after_store told fails =
         let outcome = decision.outcome in
-        let came = output_came words before after mid outcome cannot_write_text told fails.output.out [] (err_whole words before after mid outcome cannot_write_text told fails.output.err) in
+        let came = output_came before after ends.err outcome cannot_write_text told fails.output.out [] (err_whole before after ends.err outcome cannot_write_text told fails.output.err) in
         let failed = failed_paths outcome.stores before.files after.files fails.stored in
         record {
-          ends = ends;
-          decision = decision_after words before after mid decision;
+          end_is = end_is;
+          decision = decision;
+          is_of_end = is_of_end;
           ran = ran;
-          part = part_at_store words before after mid outcome cannot_write_text told fails;
+          part = part_at_store before after ends.err outcome cannot_write_text told fails;
           fault = inr (store_rose outcome.stores before.files after.files fails.stored, failed);
           paths = inr failed;
           output = λ path gains. came;
@@ -203,12 +200,13 @@ module _ (words : List (List ℕ)) (status : ℕ) (before after : Outside) where
         }
 
     -- at status 4 a put failed, and no path is among those that failed
-    after_put : AtFault → (decision : Decision words before between) → IsOfRun decision.outcome.verdict → LeavesPart decision.outcome cannot_write_text before after →
+    after_put : LeavesPart decision.outcome cannot_write_text before after →
         Rose before.out.faults after.out.faults ⊎ Rose before.err.faults after.err.faults → after.files.failed_paths ≡ before.files.failed_paths →
-        (after.files.contents ≡ before.files.contents) ⊎ LacksStatistics decision.outcome before after → StandsAfterFault words before after
-    after_put ends decision ran part rose same lacks = record {
-      ends = ends;
-      decision = decision_after words before after mid decision;
+        (after.files.contents ≡ before.files.contents) ⊎ LacksStatistics decision.outcome before after → StandsAfterFault end ends
+    after_put part rose same lacks = record {
+      end_is = end_is;
+      decision = decision;
+      is_of_end = is_of_end;
       ran = ran;
       part = part;
       fault = inl rose;
@@ -225,27 +223,21 @@ module _ (words : List (List ℕ)) (status : ℕ) (before after : Outside) where
   contents_same : (old new : FilesState) → new ≡ old → new.contents ≡ old.contents
   contents_same old new same = ap (λ (f : FilesState). f.contents) same
 
-  after_write : (ends : EndsBy words CannotWrite status before after) → status ≡ 4 → StandsAfterFault words before after
+  after_write : (ends : EndsBy words CannotWrite status before after) → status ≡ 4 → StandsAfterFault CannotWrite ends
   after_write ends four = by ends.reached.fails
     where
-      at_fault : AtFault
-      at_fault = inl (subst (λ n. EndsBy words CannotWrite n before after) four ends)
-
       told : GotFirst cannot_write_text ends.err after.err
       told = fault_text CannotWrite ends.err ends.told four refl (inl refl)
 
-      by : FailsAtStore ends.reached.decision.outcome before (outside after.files after.out ends.err) ⊎ FailsOnOut ends.reached.decision.outcome before (outside after.files after.out ends.err) → StandsAfterFault words before after
-      by (inl fails) = after_store ends.err at_fault ends.reached.decision ends.reached.ran told fails
+      by : FailsAtStore ends.reached.decision.outcome before (outside after.files after.out ends.err) ⊎ FailsOnOut ends.reached.decision.outcome before (outside after.files after.out ends.err) → StandsAfterFault CannotWrite ends
+      by (inl fails) = after_store CannotWrite ends (inl refl) ends.reached.decision refl ends.reached.ran told fails
       by (inr fails) =
-          after_put ends.err at_fault ends.reached.decision ends.reached.ran (part_on_out words before after ends.err ends.reached.decision.outcome cannot_write_text told fails)
+          after_put CannotWrite ends (inl refl) ends.reached.decision refl ends.reached.ran (part_on_out before after ends.err ends.reached.decision.outcome cannot_write_text told fails)
           (inl fails.out.faults) (paths_same before.files after.files fails.files) (inl (contents_same before.files after.files fails.files))
 
-  after_put_on_err : (ends : EndsBy words CannotPut status before after) → status ≡ 4 → StandsAfterFault words before after
+  after_put_on_err : (ends : EndsBy words CannotPut status before after) → status ≡ 4 → StandsAfterFault CannotPut ends
   after_put_on_err ends four = by ends.reached.fails
     where
-      at_fault : AtFault
-      at_fault = inr (subst (λ n. EndsBy words CannotPut n before after) four ends)
-
       told : GotFirst cannot_write_text ends.err after.err
       told = fault_text CannotPut ends.err ends.told four refl (inr refl)
 
@@ -256,26 +248,30 @@ module _ (words : List (List ℕ)) (status : ℕ) (before after : Outside) where
           last (inl tells) = still words status before after ends.err tells.text (err_rose words status before after ends.reached.decision.outcome ends.err fails)
           last (inr wants) = absurd (omega (arith, four, wants.status_is))
 
-      by : FailsOnErr ends.reached.decision.outcome before (outside after.files after.out ends.err) ⊎ FailsAtStats ends.reached.decision.outcome before (outside after.files after.out ends.err) → StandsAfterFault words before after
+      by : FailsOnErr ends.reached.decision.outcome before (outside after.files after.out ends.err) ⊎ FailsAtStats ends.reached.decision.outcome before (outside after.files after.out ends.err) → StandsAfterFault CannotPut ends
       by (inl fails) =
-          after_put ends.err at_fault ends.reached.decision ends.reached.ran (part_on_err words before after ends.err ends.reached.decision.outcome cannot_write_text told fails)
+          after_put CannotPut ends (inr refl) ends.reached.decision refl ends.reached.ran (part_on_err before after ends.err ends.reached.decision.outcome cannot_write_text told fails)
           (inr (rose (inl fails))) (paths_same before.files after.files fails.files) (inl (contents_same before.files after.files fails.files))
       by (inr fails) =
-          after_put ends.err at_fault ends.reached.decision ends.reached.ran (part_at_stats words before after ends.err ends.reached.decision.outcome cannot_write_text told fails)
+          after_put CannotPut ends (inr refl) ends.reached.decision refl ends.reached.ran (part_at_stats before after ends.err ends.reached.decision.outcome cannot_write_text told fails)
           (inr (rose (inr fails))) (ap (λ (f : FilesState). f.failed_paths) fails.files ∙ with_stores-paths ends.reached.decision.outcome.stores before.files)
           (inr (record {
             asked = fails.err.some;
             failed = rose (inr fails);
-            output = output_came words before after ends.err ends.reached.decision.outcome cannot_write_text told fails.out (take fails.err.count ends.reached.decision.outcome.stats) (stats_came words before after ends.err ends.reached.decision.outcome cannot_write_text told fails);
+            output = output_came before after ends.err ends.reached.decision.outcome cannot_write_text told fails.out (take fails.err.count ends.reached.decision.outcome.stats) (stats_came before after ends.err ends.reached.decision.outcome cannot_write_text told fails);
             files = ap (λ (f : FilesState). f.contents) fails.files;
           }))
 
-  after_fault : (end : End) → EndsBy words end status before after → status ≡ 4 → StandsAfterFault words before after
+  after_fault : (end : End) (ends : EndsBy words end status before after) → status ≡ 4 → StandsAfterFault end ends
   after_fault (Decided verdict) ends four = absurd ((written_status verdict 4 (is_this words status before after (Decided verdict) 4 ends four (λ e. omega (arith, e)))).could_write (omega arith))
   after_fault (CannotRead path) ends four = absurd (let e = is_this words status before after (CannotRead path) 4 ends four (λ e. omega (arith, e)) in omega (arith, e))
   after_fault CannotWrite ends four = after_write ends four
   after_fault CannotPut ends four = after_put_on_err ends four
   after_fault OutOfMemory ends four = absurd (let e = is_this words status before after OutOfMemory 4 ends four (λ e. omega (arith, e)) in omega (arith, e))
+
+  -- memory ran out before the last text, where this was decided and `err` stood so
+  abbrev Stops : Option (Decision words before.files after.files) → SinkState → Type 0
+  Stops decided mid = MatchOption decided (outside after.files after.out mid ≡ before) (λ decision. StopsShort decision.outcome before (outside after.files after.out mid))
 
   -- ---- status 10
   -- its text came, or a first part of it, or nothing
@@ -291,37 +287,38 @@ module _ (words : List (List ℕ)) (status : ℕ) (before after : Outside) where
   memory_text CannotPut mid (inl tells) ten = absurd (omega (arith, ten, tells.status_is))
   memory_text OutOfMemory mid (inl tells) ten = put_part out_of_memory_text mid after.err tells.text
 
-  abbrev Leaves : Type 0
-  Leaves = LeavesText out_of_memory_text before after ⊎ ((decision : Decision words before after) × LeavesPart decision.outcome out_of_memory_text before after)
+  -- what is left then, where this was decided
+  abbrev Leaves : Option (Decision words before.files after.files) → Type 0
+  Leaves decided = MatchOption decided (LeavesText out_of_memory_text before after) (λ decision. LeavesPart decision.outcome out_of_memory_text before after)
 
-  leaves : (end : End) (mid : SinkState) → Reaches words end before (outside after.files after.out mid) → GotFirst out_of_memory_text mid after.err → Leaves
-  leaves (Decided verdict) mid (decision, same, does) told = inr (decision_after words before after mid decision, part_done words before after mid decision.outcome out_of_memory_text told does)
-  leaves (CannotRead path) mid reached told = inl (text_alone words before after mid out_of_memory_text told reached.out reached.err reached.contents)
-  leaves CannotWrite mid reached told = inr (decision_after words before after mid reached.decision, by reached.fails)
+  leaves : (end : End) (ends : EndsBy words end status before after) → GotFirst out_of_memory_text ends.err after.err → Leaves (decision_of end ends)
+  leaves (Decided verdict) ends told = part_done before after ends.err ends.reached.0.outcome out_of_memory_text told ends.reached.2
+  leaves (CannotRead path) ends told = text_alone before after ends.err out_of_memory_text told ends.reached.out ends.reached.err ends.reached.contents
+  leaves CannotWrite ends told = by ends.reached.fails
     where
-      by : FailsAtStore reached.decision.outcome before (outside after.files after.out mid) ⊎ FailsOnOut reached.decision.outcome before (outside after.files after.out mid) → LeavesPart reached.decision.outcome out_of_memory_text before after
-      by (inl fails) = part_at_store words before after mid reached.decision.outcome out_of_memory_text told fails
-      by (inr fails) = part_on_out words before after mid reached.decision.outcome out_of_memory_text told fails
-  leaves CannotPut mid reached told = inr (decision_after words before after mid reached.decision, by reached.fails)
+      by : FailsAtStore ends.reached.decision.outcome before (outside after.files after.out ends.err) ⊎ FailsOnOut ends.reached.decision.outcome before (outside after.files after.out ends.err) → LeavesPart ends.reached.decision.outcome out_of_memory_text before after
+      by (inl fails) = part_at_store before after ends.err ends.reached.decision.outcome out_of_memory_text told fails
+      by (inr fails) = part_on_out before after ends.err ends.reached.decision.outcome out_of_memory_text told fails
+  leaves CannotPut ends told = by ends.reached.fails
     where
-      by : FailsOnErr reached.decision.outcome before (outside after.files after.out mid) ⊎ FailsAtStats reached.decision.outcome before (outside after.files after.out mid) → LeavesPart reached.decision.outcome out_of_memory_text before after
-      by (inl fails) = part_on_err words before after mid reached.decision.outcome out_of_memory_text told fails
-      by (inr fails) = part_at_stats words before after mid reached.decision.outcome out_of_memory_text told fails
-  leaves OutOfMemory mid reached told = by reached.done
+      by : FailsOnErr ends.reached.decision.outcome before (outside after.files after.out ends.err) ⊎ FailsAtStats ends.reached.decision.outcome before (outside after.files after.out ends.err) → LeavesPart ends.reached.decision.outcome out_of_memory_text before after
+      by (inl fails) = part_on_err before after ends.err ends.reached.decision.outcome out_of_memory_text told fails
+      by (inr fails) = part_at_stats before after ends.err ends.reached.decision.outcome out_of_memory_text told fails
+  leaves OutOfMemory ends told = by ends.reached.decision ends.reached.done
     where
-      by : (outside after.files after.out mid ≡ before) ⊎ ((decision : Decision words before (outside after.files after.out mid)) × StopsShort decision.outcome before (outside after.files after.out mid)) → Leaves
-      by (inl same) = inl (text_alone words before after mid out_of_memory_text told (ap (λ (o : Outside). o.out) same) (ap (λ (o : Outside). o.err) same) (ap (λ (o : Outside). o.files.contents) same))
-      by (inr (decision, short)) = inr (decision_after words before after mid decision, part_short words before after mid decision.outcome out_of_memory_text told short)
+      by : (decided : Option (Decision words before.files after.files)) → Stops decided ends.err → Leaves decided
+      by None same = text_alone before after ends.err out_of_memory_text told (ap (λ (o : Outside). o.out) same) (ap (λ (o : Outside). o.err) same) (ap (λ (o : Outside). o.files.contents) same)
+      by (Some decision) short = part_short before after ends.err decision.outcome out_of_memory_text told short
 
   -- nothing failed, or the last text was another's
-  abbrev Calm : Type 0
-  Calm = IsCalm out_of_memory_text before after ⊎ ((end : End) × EndsBy words end 10 before after × (end ≡ OutOfMemory → ⊥) × (0 < length (end_text end)))
+  abbrev Calm : End → Type 0
+  Calm end = IsCalm out_of_memory_text before after ⊎ ((end ≡ OutOfMemory → ⊥) × (0 < length (end_text end)))
 
-  wanted : (end : End) → EndsBy words end status before after → status ≡ 10 → (end ≡ OutOfMemory → ⊥) → Calm
+  wanted : (end : End) → EndsBy words end status before after → status ≡ 10 → (end ≡ OutOfMemory → ⊥) → Calm end
   wanted end ends ten other = by ends.told
     where
-      by : LastText end status ends.err after.err → Calm
-      by (inr wants) = inr (end, subst (λ n. EndsBy words end n before after) ten ends, other, wants.some)
+      by : LastText end status ends.err after.err → Calm end
+      by (inr wants) = inr (other, wants.some)
       by (inl tells) = absurd (other (is_memory end (sym tells.status_is ∙ ten)))
         where
           is_memory : (e : End) → end_status e ≡ 10 → e ≡ OutOfMemory
@@ -331,12 +328,12 @@ module _ (words : List (List ℕ)) (status : ℕ) (before after : Outside) where
           is_memory CannotPut is = absurd (omega (arith, is))
           is_memory OutOfMemory is = refl
 
-  calm : (end : End) → EndsBy words end status before after → status ≡ 10 → Calm
+  calm : (end : End) → EndsBy words end status before after → status ≡ 10 → Calm end
   calm (Decided verdict) ends ten = wanted (Decided verdict) ends ten (λ e. cc e)
   calm (CannotRead path) ends ten = wanted (CannotRead path) ends ten (λ e. cc e)
   calm CannotWrite ends ten = wanted CannotWrite ends ten (λ e. cc e)
   calm CannotPut ends ten = wanted CannotPut ends ten (λ e. cc e)
-  calm OutOfMemory ends ten = inl (by ends.reached.done)
+  calm OutOfMemory ends ten = inl (by ends.reached.decision ends.reached.done)
     where
       -- the put of the text went, or failed
       text_calm : (front : List ℕ) → ends.err ≡ appended before.err front → LastText OutOfMemory status ends.err after.err
@@ -353,22 +350,24 @@ module _ (words : List (List ℕ)) (status : ℕ) (before after : Outside) where
           kept (inl same) = inl (ap (λ (s : SinkState). s.faults) same ∙ ap (λ (s : SinkState). s.faults) grown)
           kept (inr (made, put)) = absurd made
 
-      by : (outside after.files after.out ends.err ≡ before) ⊎ ((decision : Decision words before (outside after.files after.out ends.err)) × StopsShort decision.outcome before (outside after.files after.out ends.err)) → IsCalm out_of_memory_text before after
-      by (inl same) = record {
+      by : (decided : Option (Decision words before.files after.files)) → Stops decided ends.err → IsCalm out_of_memory_text before after
+      by None same = record {
         files = ap (λ (o : Outside). o.files.faults) same;
         out = ap (λ (o : Outside). o.out.faults) same;
         err = text_calm [] (ap (λ (o : Outside). o.err) same ∙ appended-nothing before.err) ends.told;
       }
-      by (inr (decision, short)) = record {
+      by (Some decision) short = record {
         files = ap (λ (f : FilesState). f.faults) short.files ∙ with_stores-faults (take short.count decision.outcome.stores) before.files;
         out = ap (λ (s : SinkState). s.faults) short.out;
         err = text_calm (put_on channel.Err short.earlier) short.err ends.told;
       }
 
   -- ---- the other statuses
-  after_all : (verdict : Verdict) → EndsBy words (Decided verdict) status before after → IsWritten status → StandsAfterAll words status before after
-  after_all verdict ends written = record {
-    decision = decision_after words before after ends.err ends.reached.0;
+  after_decided : (verdict : Verdict) (ends : EndsBy words (Decided verdict) status before after) → IsWritten status → StandsAfterAll (Decided verdict) ends
+  after_decided verdict ends written = record {
+    decision = ends.reached.0;
+    is_of_end = refl;
+    end_is = ap Decided (sym ends.reached.1);
     status_is = status_of ends.told;
     out = ap (λ (s : SinkState). s.bytes) ends.reached.2.out;
     err = record {
@@ -394,6 +393,13 @@ module _ (words : List (List ℕ)) (status : ℕ) (before after : Outside) where
           by (inl tells) = put_part (end_text (Decided verdict)) ends.err after.err tells.text
           by (inr wants) = absurd (written.had_memory wants.status_is)
 
+  after_all : (end : End) (ends : EndsBy words end status before after) → IsWritten status → StandsAfterAll end ends
+  after_all (Decided verdict) ends written = after_decided verdict ends written
+  after_all (CannotRead path) ends written = absurd (written.could_read (own words status before after (CannotRead path) ends written.had_memory))
+  after_all CannotWrite ends written = absurd (written.could_write (own words status before after CannotWrite ends written.had_memory))
+  after_all CannotPut ends written = absurd (written.could_write (own words status before after CannotPut ends written.had_memory))
+  after_all OutOfMemory ends written = absurd (written.had_memory (own words status before after OutOfMemory ends written.had_memory))
+
   -- what `err` got before the last text, where no put on it failed
   grew : (end : End) (mid : SinkState) → (end ≡ CannotPut → ⊥) → Reaches words end before (outside after.files after.out mid) → (front : List ℕ) × (mid ≡ appended before.err front)
   grew (Decided verdict) mid other (decision, same, does) = (err_of decision.outcome ++ decision.outcome.stats, does.err ∙ appended-more before.err (err_of decision.outcome) decision.outcome.stats)
@@ -404,28 +410,26 @@ module _ (words : List (List ℕ)) (status : ℕ) (before after : Outside) where
       by (inl fails) = (err_of reached.decision.outcome, fails.output.err)
       by (inr fails) = (put_on channel.Err fails.earlier, fails.err)
   grew CannotPut mid other reached = absurd (other refl)
-  grew OutOfMemory mid other reached = by reached.done
+  grew OutOfMemory mid other reached = by reached.decision reached.done
     where
-      by : (outside after.files after.out mid ≡ before) ⊎ ((decision : Decision words before (outside after.files after.out mid)) × StopsShort decision.outcome before (outside after.files after.out mid)) → (front : List ℕ) × (mid ≡ appended before.err front)
-      by (inl same) = ([], ap (λ (o : Outside). o.err) same ∙ appended-nothing before.err)
-      by (inr (decision, short)) = (put_on channel.Err short.earlier, short.err)
+      by : (decided : Option (Decision words before.files after.files)) → Stops decided mid → (front : List ℕ) × (mid ≡ appended before.err front)
+      by None same = ([], ap (λ (o : Outside). o.err) same ∙ appended-nothing before.err)
+      by (Some decision) short = (put_on channel.Err short.earlier, short.err)
 
   -- the last text came whole, where no put on `err` failed
   module _ (end : End) (ends : EndsBy words end status before after) (quiet : Rose before.err.faults after.err.faults → ⊥) where
-    came_whole : (end ≡ CannotPut → ⊥) → status ≡ end_status end → (front : List ℕ) × (ends.err ≡ appended before.err front) → IsPut (end_text end) ends.err after.err → IsTold words status before after
+    came_whole : (end ≡ CannotPut → ⊥) → status ≡ end_status end → (front : List ℕ) × (ends.err ≡ appended before.err front) → IsPut (end_text end) ends.err after.err → IsTold end status before after
     came_whole other is (front, grown) (inl put) = record {
-      end = end;
-      ends = ends;
       status_is = is;
       not_silent = other;
       text = (front, ap (λ (s : SinkState). s.bytes) put ∙ ap (λ (s : SinkState). append_known s.bytes (end_text end)) grown ∙ gains_more before.err.bytes front (end_text end));
     }
     came_whole other is (front, grown) (inr (some, fails)) = absurd (quiet (subst (λ (s : SinkState). Rose s.faults after.err.faults) grown fails.faults))
 
-    told_of : (end ≡ CannotPut → ⊥) → (status ≡ 10 → ⊥) → IsTold words status before after
+    told_of : (end ≡ CannotPut → ⊥) → (status ≡ 10 → ⊥) → IsTold end status before after
     told_of other had_memory = by ends.told
       where
-        by : LastText end status ends.err after.err → IsTold words status before after
+        by : LastText end status ends.err after.err → IsTold end status before after
         by (inl tells) = came_whole other tells.status_is (grew end ends.err other ends.reached) tells.text
         by (inr wants) = absurd (had_memory wants.status_is)
 
@@ -437,7 +441,7 @@ module _ (words : List (List ℕ)) (status : ℕ) (before after : Outside) where
       by (inl tells) = quiet (still words status before after ends.err tells.text (err_rose words status before after ends.reached.decision.outcome ends.err ends.reached.fails))
       by (inr wants) = had_memory wants.status_is
 
-  is_told : (end : End) → EndsBy words end status before after → (status ≡ 10 → ⊥) → (Rose before.err.faults after.err.faults → ⊥) → IsTold words status before after
+  is_told : (end : End) → EndsBy words end status before after → (status ≡ 10 → ⊥) → (Rose before.err.faults after.err.faults → ⊥) → IsTold end status before after
   is_told (Decided verdict) ends had_memory quiet = told_of (Decided verdict) ends quiet (λ e. cc e) had_memory
   is_told (CannotRead path) ends had_memory quiet = told_of (CannotRead path) ends quiet (λ e. cc e) had_memory
   is_told CannotWrite ends had_memory quiet = told_of CannotWrite ends quiet (λ e. cc e) had_memory
@@ -445,30 +449,34 @@ module _ (words : List (List ℕ)) (status : ℕ) (before after : Outside) where
   is_told CannotPut ends had_memory quiet = absurd (silent ends quiet had_memory)
 
   -- ---- status 2
-  unread : (end : End) → EndsBy words end status before after → status ≡ 2 → StandsUnread words before after
-  unread end ends two = by (cannot_read words status before after end ends two)
+  unread : (end : End) (ends : EndsBy words end status before after) → status ≡ 2 → StandsUnread end ends
+  unread (Decided verdict) ends two = absurd ((written_status verdict 2 (is_this words status before after (Decided verdict) 2 ends two (λ e. omega (arith, e)))).could_read (omega arith))
+  unread CannotWrite ends two = absurd (let e = is_this words status before after CannotWrite 2 ends two (λ e. omega (arith, e)) in omega (arith, e))
+  unread CannotPut ends two = absurd (let e = is_this words status before after CannotPut 2 ends two (λ e. omega (arith, e)) in omega (arith, e))
+  unread OutOfMemory ends two = absurd (let e = is_this words status before after OutOfMemory 2 ends two (λ e. omega (arith, e)) in omega (arith, e))
+  unread (CannotRead path) ends two = record {
+    path = path;
+    end_is = refl;
+    found = ends.reached.found;
+    is_of_end = refl;
+    undecided = ends.reached.undecided;
+    next = ends.reached.next;
+    failed = ends.reached.failed;
+    leaves = text_alone before after ends.err (cannot_read_text path) (text ends.told) ends.reached.out ends.reached.err ends.reached.contents;
+  }
     where
-      by : (path : List ℕ) × EndsBy words (CannotRead path) status before after → StandsUnread words before after
-      by (path, ends') = record {
-        path = path;
-        ends = subst (λ n. EndsBy words (CannotRead path) n before after) two ends';
-        found = found_after words before after ends'.err ends'.reached.found;
-        undecided = ends'.reached.undecided;
-        next = ends'.reached.next;
-        failed = ends'.reached.failed;
-        leaves = text_alone words before after ends'.err (cannot_read_text path) (text ends'.told) ends'.reached.out ends'.reached.err ends'.reached.contents;
-      }
-        where
-          text : LastText (CannotRead path) status ends'.err after.err → GotFirst (cannot_read_text path) ends'.err after.err
-          text (inl tells) = put_part (cannot_read_text path) ends'.err after.err tells.text
-          text (inr wants) = absurd (omega (arith, two, wants.status_is))
+      text : LastText (CannotRead path) status ends.err after.err → GotFirst (cannot_read_text path) ends.err after.err
+      text (inl tells) = put_part (cannot_read_text path) ends.err after.err tells.text
+      text (inr wants) = absurd (omega (arith, two, wants.status_is))
 
   -- what stands, where the call ended so
   pub Stands-from_end : (end : End) → EndsBy words end status before after → Stands words status before after
   Stands-from_end end ends = record {
-    all = λ written. (let done = answers words status before after end ends written in after_all done.0 done.1 written);
+    end = end;
+    ends = ends;
+    all = after_all end ends;
     unread = unread end ends;
     fault = after_fault end ends;
-    memory = λ ten. record { ends = (end, subst (λ n. EndsBy words end n before after) ten ends); leaves = leaves end ends.err ends.reached (memory_text end ends.err ends.told ten); calm = calm end ends ten };
+    memory = λ ten. record { leaves = leaves end ends (memory_text end ends.err ends.told ten); calm = calm end ends ten };
     told = is_told end ends;
   }

@@ -1,5 +1,5 @@
 -- How a call ends before its last text: by its words, by what it found, and by what it left outside.
-use Rattle.std.specs.Prelude.{◌≡◌, ◌⊎◌, ℕ, false, List, [], length, slice_get, Some}
+use Rattle.std.specs.Prelude.{◌≡◌, ◌⊎◌, ℕ, false, List, [], length, slice_get, Option, Some, MatchOption}
 use Rattle.std.specs.List.{list_any}
 use Rattle.command_line.specs.Options.{has_zero}
 use Rattle.host_io.specs.Files.{FailsAt}
@@ -41,7 +41,7 @@ end_text OutOfMemory = out_of_memory_text
 
 -- The load of the next path failed, where the files before it did not decide the answer. Nothing was put or stored.
 pub record FailsToRead (words : List (List ℕ)) (path : List ℕ) (before after : Outside) : Type 0 where
-  pub found : Found words before after
+  pub found : Found words before.files after.files
   pub undecided : IsUndecided found.asked found.files
   pub next : slice_get (paths_of found.asked) (length found.files) ≡ Some path
   pub failed : FailsAt path before.files after.files
@@ -51,7 +51,7 @@ pub record FailsToRead (words : List (List ℕ)) (path : List ℕ) (before after
 
 -- The outcome of a run or of the demo was handed out, and that failed.
 pub record FailsToWrite (words : List (List ℕ)) (Fails : Outcome → Type 0) (before after : Outside) : Type 0 where
-  pub decision : Decision words before after
+  pub decision : Decision words before.files after.files
   pub ran : IsOfRun decision.outcome.verdict
   pub fails : Fails decision.outcome
 
@@ -59,12 +59,13 @@ pub record FailsToWrite (words : List (List ℕ)) (Fails : Outcome → Type 0) (
 -- byte is told without allocating.
 pub record RunsOutOfMemory (words : List (List ℕ)) (before after : Outside) : Type 0 where
   pub no_zero : list_any has_zero words ≡ false
-  pub done : (after ≡ before) ⊎ ((decision : Decision words before after) × StopsShort decision.outcome before after)
+  pub decision : Option (Decision words before.files after.files)
+  pub done : MatchOption decision (after ≡ before) (λ decision. StopsShort decision.outcome before after)
 
 -- how a call ends so
 abbrev pub Reaches : List (List ℕ) → End → Outside → Outside → Type 0
 Reaches words (Decided verdict) before after =
-    (decision : Decision words before after) × (decision.outcome.verdict ≡ verdict) × DoesAll decision.outcome before after
+    (decision : Decision words before.files after.files) × (decision.outcome.verdict ≡ verdict) × DoesAll decision.outcome before after
 Reaches words (CannotRead path) before after = FailsToRead words path before after
 Reaches words CannotWrite before after =
     FailsToWrite words (λ outcome. FailsAtStore outcome before after ⊎ FailsOnOut outcome before after) before after

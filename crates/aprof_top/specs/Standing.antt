@@ -1,5 +1,5 @@
 -- What stands outside after a call, sentence by sentence.
-use Rattle.std.specs.Prelude.{◌≡◌, ◌⊎◌, ◌<◌, ℕ, List, ◌++◌, ◌∷◌, [], length, take, Option, Some, IfSome, slice_get}
+use Rattle.std.specs.Prelude.{◌≡◌, ◌⊎◌, ◌<◌, ℕ, List, ◌++◌, ◌∷◌, [], length, take, Option, Some, None, IfSome, MatchOption, option_map, slice_get}
 use Rattle.std.specs.Io.KnownBytes.{append_known}
 use Rattle.command_line.specs.Options.{GuestOptions, RunOptions}
 use Rattle.command_line.specs.Options.Analysis.{Run}
@@ -9,7 +9,7 @@ use Rattle.host_io.specs.Files.{FailsAt, FilesState, Holds, with_file, with_path
 use Rattle.host_io.specs.Sink.{FailsToAppend, SinkState, appended}
 use Rattle.aprof_top.specs.Answers.{EndsBy, IsWritten}
 use Rattle.aprof_top.specs.Ends.{End, end_status, end_text}
-use Rattle.aprof_top.specs.Ends.End.{CannotPut, CannotRead, CannotWrite, OutOfMemory}
+use Rattle.aprof_top.specs.Ends.End.{CannotPut, CannotRead, CannotWrite, Decided, OutOfMemory}
 use Rattle.aprof_top.specs.Found.{Decision, Found, paths_of}
 use Rattle.aprof_top.specs.Outcome.{IsUndecided, Outcome, err_of, out_of}
 use Rattle.aprof_top.specs.Outside.{Outside, with_stores}
@@ -68,10 +68,23 @@ pub record GainedPath (path : List ℕ) (old new : FilesState) : Type 0 where
   pub told : old.failed_paths ≡ Some earlier
   pub gained : new.failed_paths ≡ Some (earlier ++ path ∷ [])
 
--- the call failed at a store: a told list of failed paths gained its path
+-- the call failed at the next store: its path has anything, and a told list of failed paths gained it
 abbrev pub FailedAtStore : List (List ℕ × List ℕ) → FilesState → FilesState → Type 0
-FailedAtStore stores old new =
-    (place : ℕ) × (store : List ℕ × List ℕ) × (slice_get stores place ≡ Some store) × (new.failed_paths ≡ with_path store.0 old.failed_paths)
+FailedAtStore stores old new = (first : HaveFirstBut stores old new) × (new.failed_paths ≡ with_path first.store.0 old.failed_paths)
+
+-- ---- what a call had found and decided when it ended
+-- the decision whose outcome it handed out, or a part of that
+abbrev pub decision_of : {words : List (List ℕ)} {status : ℕ} {before after : Outside} (end : End) → EndsBy words end status before after → Option (Decision words before.files after.files)
+decision_of (Decided verdict) ends = Some ends.reached.0
+decision_of (CannotRead path) ends = None
+decision_of CannotWrite ends = Some ends.reached.decision
+decision_of CannotPut ends = Some ends.reached.decision
+decision_of OutOfMemory ends = ends.reached.decision
+
+-- what it had found for that, or before a load failed
+abbrev pub found_of : {words : List (List ℕ)} {status : ℕ} {before after : Outside} (end : End) → EndsBy words end status before after → Option (Found words before.files after.files)
+found_of (CannotRead path) ends = Some ends.reached.found
+found_of end ends = option_map (λ decision. decision.found) (decision_of end ends)
 
 -- ---- what a call leaves that was cut off
 -- A first part of the outcome, and the last text or a first part of it.
@@ -102,21 +115,21 @@ pub record IsCalm (text : List ℕ) (before after : Outside) : Type 0 where
   pub err : (after.err.faults ≡ before.err.faults) ⊎ ((front : List ℕ) × FailsToAppend text (appended before.err front) after.err)
 
 -- After status 2: the load of the next path failed, and nothing came but the last text or a first part of it.
-pub record StandsUnread (words : List (List ℕ)) (before after : Outside) : Type 0 where
+pub record StandsUnread {words : List (List ℕ)} {status : ℕ} {before after : Outside} (end : End) (ends : EndsBy words end status before after) : Type 0 where
   pub path : List ℕ
-  -- how the call ended, at this path
-  pub ends : EndsBy words (CannotRead path) 2 before after
-  pub found : Found words before after
+  pub end_is : end ≡ CannotRead path
+  pub found : Found words before.files after.files
+  pub is_of_end : found_of end ends ≡ Some found
   pub undecided : IsUndecided found.asked found.files
   pub next : slice_get (paths_of found.asked) (length found.files) ≡ Some path
   pub failed : FailsAt path before.files after.files
   pub leaves : LeavesText (cannot_read_text path) before after
 
 -- After status 4.
-pub record StandsAfterFault (words : List (List ℕ)) (before after : Outside) : Type 0 where
-  -- how the call ended
-  pub ends : EndsBy words CannotWrite 4 before after ⊎ EndsBy words CannotPut 4 before after
-  pub decision : Decision words before after
+pub record StandsAfterFault {words : List (List ℕ)} {status : ℕ} {before after : Outside} (end : End) (ends : EndsBy words end status before after) : Type 0 where
+  pub end_is : (end ≡ CannotWrite) ⊎ (end ≡ CannotPut)
+  pub decision : Decision words before.files after.files
+  pub is_of_end : decision_of end ends ≡ Some decision
   -- no refusal of the words, the image, the schedule, the trace or a length applied
   pub ran : IsOfRun decision.outcome.verdict
   pub part : LeavesPart decision.outcome cannot_write_text before after
@@ -142,35 +155,36 @@ pub record StandsAfterFault (words : List (List ℕ)) (before after : Outside) :
       → (after.files.contents ≡ before.files.contents) ⊎ LacksStatistics decision.outcome before after
 
 -- After status 10.
-pub record StandsAfterMemory (words : List (List ℕ)) (before after : Outside) : Type 0 where
-  -- how the call ended
-  pub ends : (end : End) × EndsBy words end 10 before after
-  pub leaves : LeavesText out_of_memory_text before after
-      ⊎ ((decision : Decision words before after) × LeavesPart decision.outcome out_of_memory_text before after)
+pub record StandsAfterMemory {words : List (List ℕ)} {status : ℕ} {before after : Outside} (end : End) (ends : EndsBy words end status before after) : Type 0 where
+  -- a part of what was decided, or where nothing was, the last text alone
+  pub leaves : MatchOption (decision_of end ends) (LeavesText out_of_memory_text before after) (λ decision. LeavesPart decision.outcome out_of_memory_text before after)
   -- nothing failed but the put of the last text, or the last text of another end could not be allocated
-  pub calm : IsCalm out_of_memory_text before after ⊎ ((end : End) × EndsBy words end 10 before after × (end ≡ OutOfMemory → ⊥) × (0 < length (end_text end)))
+  pub calm : IsCalm out_of_memory_text before after ⊎ ((end ≡ OutOfMemory → ⊥) × (0 < length (end_text end)))
 
 -- After a status of the written product, which is that of the outcome's verdict.
-pub record StandsAfterAll (words : List (List ℕ)) (status : ℕ) (before after : Outside) : Type 0 where
-  pub decision : Decision words before after
+pub record StandsAfterAll {words : List (List ℕ)} {status : ℕ} {before after : Outside} (end : End) (ends : EndsBy words end status before after) : Type 0 where
+  pub decision : Decision words before.files after.files
+  pub is_of_end : decision_of end ends ≡ Some decision
+  pub end_is : end ≡ Decided decision.outcome.verdict
   pub status_is : status ≡ verdict_status decision.outcome.verdict
   pub out : after.out.bytes ≡ append_known before.out.bytes (out_of decision.outcome)
   pub err : GotAllThen (err_of decision.outcome ++ decision.outcome.stats) (verdict_text decision.outcome.verdict) before.err after.err
   pub files : after.files.contents ≡ (with_stores decision.outcome.stores before.files).contents
 
--- The last text came whole: it is that of this end, which the call had.
-pub record IsTold (words : List (List ℕ)) (status : ℕ) (before after : Outside) : Type 0 where
-  pub end : End
-  pub ends : EndsBy words end status before after
+-- The last text came whole: it is that of this end.
+pub record IsTold (end : End) (status : ℕ) (before after : Outside) : Type 0 where
   pub status_is : status ≡ end_status end
   pub not_silent : end ≡ CannotPut → ⊥
   pub text : EndsWith (end_text end) before.err after.err
 
 -- What stands after a call with this status.
 pub record Stands (words : List (List ℕ)) (status : ℕ) (before after : Outside) : Type 0 where
-  pub all : IsWritten status → StandsAfterAll words status before after
-  pub unread : status ≡ 2 → StandsUnread words before after
-  pub fault : status ≡ 4 → StandsAfterFault words before after
-  pub memory : status ≡ 10 → StandsAfterMemory words before after
+  -- how the call ended: all the rest speaks of this end, and of what was found and decided by then
+  pub end : End
+  pub ends : EndsBy words end status before after
+  pub all : IsWritten status → StandsAfterAll end ends
+  pub unread : status ≡ 2 → StandsUnread end ends
+  pub fault : status ≡ 4 → StandsAfterFault end ends
+  pub memory : status ≡ 10 → StandsAfterMemory end ends
   -- at every status but 10 the last text stands whole at the end of `err`, where no put on it failed
-  pub told : (status ≡ 10 → ⊥) → (Rose before.err.faults after.err.faults → ⊥) → IsTold words status before after
+  pub told : (status ≡ 10 → ⊥) → (Rose before.err.faults after.err.faults → ⊥) → IsTold end status before after

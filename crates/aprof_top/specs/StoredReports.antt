@@ -52,4 +52,4 @@ StoredReportsAreValid =
 
 -- So does each outcome that the words and what a call finds outside decide.
 abbrev pub ReportsAreValid : List (List ℕ) → Outside → Outside → Type 0
-ReportsAreValid words before after = (decision : Decision words before after) → HasValidReport decision.found.asked decision.outcome
+ReportsAreValid words before after = (decision : Decision words before.files after.files) → HasValidReport decision.found.asked decision.outcome
