@@ -34,7 +34,8 @@ abbrev pub words_copied : List Event → ℕ
 words_copied [] = 0
 words_copied (e ∷ events) = words_copied events + count_copied e
 
--- read(2) 63, write(2) 64, readv(2) 65 and writev(2) 66 carry the bytes whose number they answer; no other call carries any
+-- read(2) 63, write(2) 64, readv(2) 65 and writev(2) 66 carry the bytes whose number they answer; no other call carries any.
+-- One that is refused copies nothing, though the number of its error counts here.
 abbrev pub bytes_carried : ℕ → Answer → ℕ
 bytes_carried call (Back value) = if nat_le 63 call && nat_le call 66 then value else 0
 bytes_carried call answer = 0
