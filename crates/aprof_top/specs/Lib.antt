@@ -1,6 +1,7 @@
 -- What a reader has to believe: the headline is IsAnswered of Answers, over these.
 pub mod Answers
 pub mod CacheMisses
+pub mod CallCosts
 pub mod ContextReports
 pub mod Contexts
 pub mod Delivery

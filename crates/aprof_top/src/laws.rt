@@ -1,10 +1,12 @@
 //! Laws on the written product, each the contract of a function that does nothing but call other laws.
+ghost use Rattle.aprof_top.specs.CallCosts.{KernelCallsCostByTheirBytes};
 ghost use Rattle.aprof_top.specs.Contexts.{ContextsAreATree};
 ghost use Rattle.aprof_top.specs.Laws.{ContextsBeginWithTheReport, EachCommandHasAnOutcome, OneOutcome, RunsAreBounded, TracesReplay, TwoRunsAgree};
 ghost use Rattle.aprof_top.specs.ProgramLimits.{AreProgramLimits};
 ghost use Rattle.aprof_top.specs.StoredReports.{StoredReportsAreValid};
 
 use demo_guest::a_demo_has_one_file;
+use guest_calls::every_syscall_is_lawful;
 use guest_run::{recordings_are_schedules, runs_replay, runs_stay_within};
 use guest_words::limits::limits_are_promised;
 use trace_file::{a_text_is_of_one_trace, bytes_read_in_one_way};
@@ -68,6 +70,14 @@ pub fn runs_are_bounded()
     ensures { RunsAreBounded }
 {
     runs_stay_within();
+}
+
+/// What a kernel call costs the profiler, without the ticks, is bounded by the bytes that it carries, a table of 1024 parts
+/// and its events, whatever the states of the profiler at these: 8 steps an event, and 32 and the digits of the depth a word.
+pub fn kernel_calls_cost_by_their_bytes()
+    ensures { KernelCallsCostByTheirBytes }
+{
+    every_syscall_is_lawful();
 }
 
 /// The limits of the program in numbers: what is promised of them, whatever the definitions that cite their names.

@@ -26,7 +26,7 @@ mod trace_names;
 
 pub use laws::{
     a_command_has_an_outcome, a_command_has_one_outcome, contexts_are_a_tree,
-    contexts_begin_with_the_report, program_limits_are_promised, runs_are_bounded,
-    stored_reports_are_valid, traces_replay, two_runs_agree,
+    contexts_begin_with_the_report, kernel_calls_cost_by_their_bytes, program_limits_are_promised,
+    runs_are_bounded, stored_reports_are_valid, traces_replay, two_runs_agree,
 };
 pub use top::aprof;

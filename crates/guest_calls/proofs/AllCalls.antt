@@ -33,9 +33,9 @@ each_is_lawful =
     and (λ c is. openat_is_lawful c)
     and (λ c is. close_is_lawful c)
     and (λ c is. llseek_is_lawful c)
-    and (λ c is. read_is_lawful c)
+    and read_is_lawful
     and write_is_lawful
-    and (λ c is. readv_is_lawful c)
+    and readv_is_lawful
     and writev_is_lawful
     and (λ c is. exit_is_lawful c)
     and (λ c is. exit_group_is_lawful c)

@@ -17,7 +17,7 @@ use Rattle.guest_calls.specs.Lawful.{IsLawful}
 use Rattle.guest_kernel.specs.Copies.{fill_event}
 use Rattle.guest_calls.specs.Results.{Syscall, Guest, arg, filled_where, has, returns}
 use Rattle.guest_kernel.proofs.Room.{fill_few}
-use Rattle.guest_calls.proofs.Lawful.{AreFailed, AreFair, IsKept, fill_copies, fill_fair, fill_weight, filled_kept, kept, kept_free, lawful_unless, none_fair, steady, two_fair}
+use Rattle.guest_calls.proofs.Lawful.{AreFailed, AreFair, IsKept, fill_copies, fill_fair, fill_weight, fill_words, filled_kept, kept, kept_free, lawful_unless, none_fair, steady, two_fair}
 use Rattle.guest_kernel.proofs.Reach.{writable_end}
 
 -- what is asked for and not denied can be written
@@ -33,13 +33,14 @@ where_kept c true at n g before = filled_kept c g at (to_le_bytes w32 n) before
 where_kept c false at n g before = before
 
 where_fair : (c : Syscall) (a b : Bool) (to at n : ℕ) → (a ≡ true → to + 4 ≤ 2 ^ 32) → (b ≡ true → at + 4 ≤ 2 ^ 32) →
-    AreFair c.tid (filled_where b at n (filled_where a to n (returns c n).guest)).events
+    AreFair c.tid 0 (filled_where b at n (filled_where a to n (returns c n).guest)).events
 where_fair c true true to at n one two =
     two_fair c.tid (fill_event to 4) (fill_event at 4) (fill_few to 4) (fill_few at 4)
     (omega (arith, fill_weight to 4)) (omega (arith, fill_weight at 4))
+    (omega (arith, fill_words to 4, fill_few to 4)) (omega (arith, fill_words at 4, fill_few at 4))
     (fill_copies c.tid to 4 (λ some. one refl)) (fill_copies c.tid at 4 (λ some. two refl))
-where_fair c true false to at n one two = fill_fair c.tid to 4 (λ some. one refl)
-where_fair c false true to at n one two = fill_fair c.tid at 4 (λ some. two refl)
+where_fair c true false to at n one two = fill_fair c.tid 0 to 4 (omega arith) (λ some. one refl)
+where_fair c false true to at n one two = fill_fair c.tid 0 at 4 (omega arith) (λ some. two refl)
 where_fair c false false to at n one two = none_fair c.tid
 
 -- who lives still lives
@@ -67,6 +68,7 @@ clone_is_lawful c =
       few = fair.few;
       light = fair.light;
       copies = fair.copies;
+      words = fair.words;
       break_free = kept_free c c.kernel child (steady c.kernel) rest;
       numbers = (refl, refl, all.1.0);
       threads = map-append (λ t. t.tid) c.kernel.threads (record { tid = tid; clear_tid = clear } ∷ []);

@@ -11,10 +11,10 @@ use Rattle.guest_kernel.specs.declared.descriptor.Descriptor.TheVariants.{Closed
 use Rattle.guest_kernel.specs.Descriptors.{advanced, least_free, with_position}
 use Rattle.guest_calls.specs.Files.{close, close_tests, ends_path, input_index, llseek, llseek_effect, llseek_tests, openat, openat_effect, openat_tests, path_end, read, read_bytes, read_effect, read_tests, target, write, write_count, write_effect, write_tests}
 use Rattle.guest_kernel.specs.Kernel.{KernelState, can_run, descriptor, with_descriptor}
-use Rattle.guest_calls.specs.Lawful.{IsLawful}
+use Rattle.guest_calls.specs.Lawful.{IsLawful, bytes_carried}
 use Rattle.guest_kernel.specs.Copies.{read_event}
 use Rattle.guest_calls.specs.Results.{Syscall, arg, number, readable, returns, sets, ◌▷◌}
-use Rattle.guest_calls.proofs.Lawful.{AreFailed, AreFair, IsSteady, calm_lawful, kept, lawful_by, lawful_changes, lawful_fills, lawful_unless, read_fair, steady}
+use Rattle.guest_calls.proofs.Lawful.{AreFailed, AreFair, IsSteady, calm_lawful, carried_few, few_bytes, kept, lawful_by, lawful_changes, lawful_fills, lawful_unless, read_fair, steady}
 use Rattle.guest_calls.proofs.Passed.{found_below, found_from}
 use Rattle.guest_kernel.proofs.Reach.{readable_end}
 
@@ -35,13 +35,13 @@ advanced_able _ fd n k tid can = can
 
 path_fair : (c : Syscall) (path : ℕ) (o : Option ℕ) → o ≡ path_end c.memory path →
     option_map_or (λ at. not (can_read c.memory at 1)) o false ≡ false → is_none o ≡ false →
-    AreFair c.tid (read_event c.tid path (unwrap_or o path - path + 1))
+    AreFair c.tid 0 (read_event c.tid path (unwrap_or o path - path + 1))
 path_fair c path None is reach some = absurd (cc)
 path_fair c path (Some stop) is reach some =
     let from = found_from (ends_path c.memory) path 4096 stop (sym is) in
     let below = found_below (ends_path c.memory) path 4096 stop (sym is) in
     let end = readable_end c.memory stop 1 (not-false (can_read c.memory stop 1) reach) (omega arith) in
-    read_fair c.tid path (stop - path + 1) (omega (arith, below)) (λ one. omega (arith, from, end))
+    read_fair c.tid 0 path (stop - path + 1) (omega (arith, below)) (omega (arith, below)) (λ one. omega (arith, from, end))
 
 pub openat_is_lawful : (c : Syscall) → IsLawful c (openat c)
 openat_is_lawful c =
@@ -66,16 +66,17 @@ llseek_is_lawful c =
     let file = descriptor c.kernel (arg c 0) in
     let position = unsigned_abs (target c.kernel file (arg c 1) (arg c 2) (arg c 4)) in
     lawful_fills c (with_descriptor c.kernel (arg c 0) (with_position file position)) 0 (arg c 3) (to_le_bytes w64 position)
-    (sets_steady c.kernel (arg c 0) (with_position file position)) (λ can. can) all.1.1.1.1.0)
+    (sets_steady c.kernel (arg c 0) (with_position file position)) (λ can. can)
+    (few_bytes 8 (bytes_carried (number c) (Back 0)) (omega arith)) all.1.1.1.1.0)
 
-pub read_is_lawful : (c : Syscall) → IsLawful c (read c)
-read_is_lawful c =
+pub read_is_lawful : (c : Syscall) → number c ≡ 63 → IsLawful c (read c)
+read_is_lawful c is =
     lawful_unless c (read_tests c) (λ _. read_effect c)
     (λ (all : AreFailed (read_tests c)).
     let file = descriptor c.kernel (arg c 0) in
     let n = length (read_bytes c) in
     lawful_fills c (advanced file (arg c 0) n c.kernel) n (arg c 1) (read_bytes c)
-    (advanced_steady file (arg c 0) n c.kernel) (advanced_able file (arg c 0) n c.kernel c.tid) all.1.0)
+    (advanced_steady file (arg c 0) n c.kernel) (advanced_able file (arg c 0) n c.kernel c.tid) (carried_few c 63 n is refl) all.1.0)
 
 pub min_few : (n : ℕ) → min n 65536 ≤ 65536
 min_few n = omega arith
@@ -92,7 +93,7 @@ write_is_lawful c is =
       able = λ can goes. can;
       held = λ q some. some;
       free = λ free. free;
-      fair = read_fair c.tid (arg c 1) n (min_few (arg c 2))
+      fair = read_fair c.tid (bytes_carried (number c) (Back n)) (arg c 1) n (min_few (arg c 2)) (carried_few c 64 n is refl)
           (readable_end c.memory (arg c 1) n (not-false (readable c (arg c 1) n) all.1.0));
       silent = λ no_write no_writev. absurd (no_write is);
     }))

@@ -16,7 +16,7 @@ use Rattle.guest_calls.specs.Lawful.{IsLawful}
 use Rattle.guest_kernel.specs.Copies.{read_event}
 use Rattle.guest_calls.specs.Results.{Syscall, SyscallResult, answers, either, readable, reads, returns, when, word, ◌▷◌}
 use Rattle.guest_kernel.proofs.Room.{read_few}
-use Rattle.guest_calls.proofs.Lawful.{AreFailed, AreFair, IsSteady, kept, lawful_by, lawful_changes, lawful_either, lawful_returns, lawful_unless, read_copies, read_fair, read_weight, steady, two_fair}
+use Rattle.guest_calls.proofs.Lawful.{AreFailed, AreFair, IsSteady, kept, lawful_by, lawful_changes, lawful_either, lawful_returns, lawful_unless, read_copies, read_fair, read_weight, read_words, steady, two_fair}
 use Rattle.guest_kernel.proofs.Leaving.{woken_can_run}
 use Rattle.guest_kernel.proofs.Queues.{requeued_can_run}
 use Rattle.guest_kernel.proofs.Reach.{readable_end}
@@ -40,18 +40,20 @@ requeue_able c can = requeued_can_run c.kernel (futex_at c) (futex_value c) (fut
 
 -- ---- waits
 -- the word that is looked at is read
-word_fair : (c : Syscall) → (true && not (readable c (futex_at c) 4)) ≡ false → AreFair c.tid (read_event c.tid (futex_at c) 4)
+word_fair : (c : Syscall) → (true && not (readable c (futex_at c) 4)) ≡ false → AreFair c.tid 0 (read_event c.tid (futex_at c) 4)
 word_fair c reach =
-    read_fair c.tid (futex_at c) 4 (omega arith)
+    read_fair c.tid 0 (futex_at c) 4 (omega arith) (omega arith)
     (readable_end c.memory (futex_at c) 4 (not-false (readable c (futex_at c) 4) reach))
 
 -- so is the limit of a wait, before it
 limit_fair : (c : Syscall) → readable c (futex_limit c) time_size ≡ true → (true && not (readable c (futex_at c) 4)) ≡ false →
-    AreFair c.tid (read_event c.tid (futex_limit c) time_size ++ read_event c.tid (futex_at c) 4)
+    AreFair c.tid 0 (read_event c.tid (futex_limit c) time_size ++ read_event c.tid (futex_at c) 4)
 limit_fair c limit reach =
     two_fair c.tid (read_event c.tid (futex_limit c) time_size) (read_event c.tid (futex_at c) 4)
     (read_few c.tid (futex_limit c) time_size) (read_few c.tid (futex_at c) 4)
     (omega (arith, read_weight c.tid (futex_limit c) time_size)) (omega (arith, read_weight c.tid (futex_at c) 4))
+    (omega (arith, read_words c.tid (futex_limit c) time_size, read_few c.tid (futex_limit c) time_size))
+    (omega (arith, read_words c.tid (futex_at c) 4, read_few c.tid (futex_at c) 4))
     (read_copies c.tid (futex_limit c) time_size (readable_end c.memory (futex_limit c) time_size limit))
     (read_copies c.tid (futex_at c) 4 (readable_end c.memory (futex_at c) 4 (not-false (readable c (futex_at c) 4) reach)))
 
@@ -61,18 +63,18 @@ looked c end = returns c 0 ▷ when (is_some end) (reads c.tid (futex_limit c) t
 
 looked_fair : (c : Syscall) (end : Option ℕ) → (is_some end ≡ true → readable c (futex_limit c) time_size ≡ true) →
     (true && not (readable c (futex_at c) 4)) ≡ false →
-    AreFair c.tid (looked c end).guest.events
+    AreFair c.tid 0 (looked c end).guest.events
 looked_fair c None limit reach = word_fair c reach
 looked_fair c (Some end) limit reach = limit_fair c (limit refl) reach
 
-back_lawful : (c : Syscall) (errno : ℕ) (end : Option ℕ) → AreFair c.tid (looked c end).guest.events →
+back_lawful : (c : Syscall) (errno : ℕ) (end : Option ℕ) → AreFair c.tid 0 (looked c end).guest.events →
     IsLawful c (answers (Back errno) (looked c end))
 back_lawful c errno None fair =
     lawful_by c (Back errno) c.kernel (looked c None).guest tt (steady c.kernel) (λ goes can. can) (kept c _) fair
 back_lawful c errno (Some end) fair =
     lawful_by c (Back errno) c.kernel (looked c (Some end)).guest tt (steady c.kernel) (λ goes can. can) (kept c _) fair
 
-begun_lawful : (c : Syscall) (bits : ℕ) (end : Option ℕ) → AreFair c.tid (looked c end).guest.events →
+begun_lawful : (c : Syscall) (bits : ℕ) (end : Option ℕ) → AreFair c.tid 0 (looked c end).guest.events →
     IsLawful c (waits_for c bits end (looked c end))
 begun_lawful c bits None fair =
     lawful_by c Block (waits_for c bits None (looked c None)).kernel (looked c None).guest tt

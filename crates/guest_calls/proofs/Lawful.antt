@@ -1,5 +1,5 @@
 -- What makes a call lawful: lemmas for all calls, and for the kinds that most of them are.
-use Rattle.std.proofs.Common.{◌≡◌, ◌≢◌, ℕ, zero, suc, ◌≤◌, ◌+◌, ◌/◌, ◌^◌, Bool, true, false, List, [], ◌∷◌, ◌++◌, length, length-append, map, Option, Some, None, arith, refl, ap, sym, subst, ◌∙◌}
+use Rattle.std.proofs.Common.{◌≡◌, ◌≢◌, ℕ, zero, suc, ◌≤◌, ◌+◌, ◌*◌, ◌/◌, ◌^◌, Bool, true, false, List, [], ◌∷◌, ◌++◌, length, length-append, map, Option, Some, None, arith, refl, ap, sym, subst, ◌∙◌}
 use Rattle.std.specs.Prelude.{not, ◌==◌, ◌||◌, is_some}
 use Rattle.std.specs.List.{list_any}
 use Rattle.std.proofs.lemmas.Bool.{not-false}
@@ -15,7 +15,7 @@ use Rattle.guest_kernel.specs.declared.answer.Answer.{Answer}
 use Rattle.guest_kernel.specs.declared.answer.Answer.TheVariants.{Back, Yield, Block}
 use Rattle.guest_kernel.specs.declared.thread.Thread.{Thread}
 use Rattle.guest_kernel.specs.Kernel.{KernelState, can_run, lives}
-use Rattle.guest_calls.specs.Lawful.{AreCopies, BeginsBehind, EndsWithByte, GivesNumber, IsLawful, goes_on, tids, tids_after}
+use Rattle.guest_calls.specs.Lawful.{AreCopies, BeginsBehind, EndsWithByte, GivesNumber, IsLawful, bytes_carried, goes_on, tids, tids_after, words_copied}
 use Rattle.guest_calls.specs.Pages.{IsBreakFree, remaps}
 use Rattle.guest_kernel.specs.Copies.{fill_event, read_event}
 use Rattle.guest_calls.specs.Results.{Syscall, SyscallResult, Guest, ◌▷◌, answered_or, changes, either, filled, fills, first_answer, number, returns, unless, writable}
@@ -24,11 +24,21 @@ use Rattle.guest_kernel.proofs.Reach.{writable_end}
 use Rattle.guest_kernel.proofs.Room.{fill_few, read_few}
 
 -- ---- events
--- few events of little weight, each a copy for the thread
-pub record AreFair (tid : ℕ) (events : List Event) : Type 0 where
+-- few events of little weight, each a copy for the thread, of the words of these bytes and of few more
+pub record AreFair (tid bytes : ℕ) (events : List Event) : Type 0 where
   pub few : length events ≤ SYSCALL_EVENTS
   pub light : weight events ≤ 65536
   pub copies : AreCopies tid events
+  pub words : 4 * words_copied events ≤ bytes + 8192 + 8 * length events
+
+-- those that carry no bytes may carry any
+pub any_fair : (tid bytes : ℕ) (events : List Event) → AreFair tid 0 events → AreFair tid bytes events
+any_fair tid bytes events fair = record {
+  few = fair.few;
+  light = fair.light;
+  copies = fair.copies;
+  words = let least = fair.words in omega (arith, least);
+}
 
 words_of : (at n : ℕ) → 1 ≤ n → at + n ≤ 2 ^ 32 → AreWords (at / 4) (word_count at n)
 words_of at n some fits = (omega (arith, some), omega (arith, some, fits))
@@ -45,6 +55,19 @@ pub copies_append : (tid : ℕ) (xs ys : List Event) → AreCopies tid xs → Ar
 copies_append tid [] ys front back = back
 copies_append tid (e ∷ xs) ys front back = (front.0, copies_append tid xs ys front.1 back)
 
+pub words-append : (xs ys : List Event) → words_copied (xs ++ ys) ≡ words_copied xs + words_copied ys
+words-append [] ys = omega arith
+words-append (e ∷ xs) ys = omega (arith, words-append xs ys)
+
+-- a copy touches at most two words more than its bytes fill
+pub read_words : (tid at n : ℕ) → 4 * words_copied (read_event tid at n) ≤ n + 8 * length (read_event tid at n)
+read_words tid at zero = omega arith
+read_words tid at (suc n) = omega arith
+
+pub fill_words : (at n : ℕ) → 4 * words_copied (fill_event at n) ≤ n + 8 * length (fill_event at n)
+fill_words at zero = omega arith
+fill_words at (suc n) = omega arith
+
 -- a read weighs one for itself and at most two words more than its bytes fill
 pub read_weight : (tid at n : ℕ) → weight (read_event tid at n) ≤ n / 4 + 3
 read_weight tid at zero = omega arith
@@ -54,31 +77,56 @@ pub fill_weight : (at n : ℕ) → weight (fill_event at n) ≤ 1
 fill_weight at zero = omega arith
 fill_weight at (suc n) = omega arith
 
-pub none_fair : (tid : ℕ) → AreFair tid []
-none_fair tid = record { few = omega arith; light = omega arith; copies = tt }
+pub none_fair : (tid : ℕ) → AreFair tid 0 []
+none_fair tid = record { few = omega arith; light = omega arith; copies = tt; words = omega arith }
 
-pub read_fair : (tid at n : ℕ) → n ≤ 65536 → (1 ≤ n → at + n ≤ 2 ^ 32) → AreFair tid (read_event tid at n)
-read_fair tid at n few fits = record {
+pub read_fair : (tid bytes at n : ℕ) → n ≤ 65536 → n ≤ bytes + 8192 → (1 ≤ n → at + n ≤ 2 ^ 32) →
+    AreFair tid bytes (read_event tid at n)
+read_fair tid bytes at n few within fits = record {
   few = omega (arith, read_few tid at n);
   light = omega (arith, read_weight tid at n, few);
   copies = read_copies tid at n fits;
+  words = omega (arith, read_words tid at n, within);
 }
 
-pub fill_fair : (tid at n : ℕ) → (1 ≤ n → at + n ≤ 2 ^ 32) → AreFair tid (fill_event at n)
-fill_fair tid at n fits = record {
+pub fill_fair : (tid bytes at n : ℕ) → n ≤ bytes + 8192 → (1 ≤ n → at + n ≤ 2 ^ 32) → AreFair tid bytes (fill_event at n)
+fill_fair tid bytes at n within fits = record {
   few = omega (arith, fill_few at n);
   light = omega (arith, fill_weight at n);
   copies = fill_copies tid at n fits;
+  words = omega (arith, fill_words at n, within);
 }
 
--- two copies, of few bytes where they are read
+-- two copies, each of few bytes
 pub two_fair : (tid : ℕ) (xs ys : List Event) → length xs ≤ 1 → length ys ≤ 1 → weight xs ≤ 99 → weight ys ≤ 99 →
-    AreCopies tid xs → AreCopies tid ys → AreFair tid (xs ++ ys)
-two_fair tid xs ys one two light also copies more = record {
+    words_copied xs ≤ 99 → words_copied ys ≤ 99 → AreCopies tid xs → AreCopies tid ys → AreFair tid 0 (xs ++ ys)
+two_fair tid xs ys one two light also short shorter copies more = record {
   few = omega (arith, length-append xs ys, one, two);
   light = omega (arith, weight-append xs ys, light, also);
   copies = copies_append tid xs ys copies more;
+  words = omega (arith, words-append xs ys, short, shorter);
 }
+
+-- ---- bytes that are carried
+-- what is answered is carried
+answered : (c : Syscall) (call n : ℕ) → number c ≡ call → bytes_carried call (Back n) ≡ n → bytes_carried (number c) (Back n) ≡ n
+answered c call n is all = ap (λ (k : ℕ). bytes_carried k (Back n)) is ∙ all
+
+at_most : (n bytes : ℕ) → bytes ≡ n → n ≤ bytes + 8192
+at_most n bytes is = omega (arith, is)
+
+pub carried_few : (c : Syscall) (call n : ℕ) → number c ≡ call → bytes_carried call (Back n) ≡ n →
+    n ≤ bytes_carried (number c) (Back n) + 8192
+carried_few c call n is all = at_most n (bytes_carried (number c) (Back n)) (answered c call n is all)
+
+pub carried_fair : (c : Syscall) (call n : ℕ) (events : List Event) → number c ≡ call → bytes_carried call (Back n) ≡ n →
+    AreFair c.tid n events → AreFair c.tid (bytes_carried (number c) (Back n)) events
+carried_fair c call n events is all fair =
+    subst (λ (bytes : ℕ). AreFair c.tid bytes events) (sym (answered c call n is all)) fair
+
+-- few bytes need not be carried
+pub few_bytes : (n bytes : ℕ) → n ≤ 8192 → n ≤ bytes + 8192
+few_bytes n bytes few = omega (arith, few)
 
 -- ---- the thread goes on, or waits
 abbrev pub Stays : Answer → Type 0
@@ -152,7 +200,7 @@ pub record IsCalm (c : Syscall) (r : SyscallResult) : Type 0 where
   pub able : can_run c.kernel c.tid ≡ true → goes_on r.answer ≡ true → can_run r.kernel c.tid ≡ true
   pub held : (q : ℕ) → is_some (r.guest.held q) ≡ true → is_some (c.held q) ≡ true
   pub free : IsBreakFree c.memory c.kernel.program_break → IsBreakFree r.guest.memory r.kernel.program_break
-  pub fair : AreFair c.tid r.guest.events
+  pub fair : AreFair c.tid (bytes_carried (number c) r.answer) r.guest.events
   pub silent : number c ≢ 64 → number c ≢ 66 → r.out ≡ None
 
 pub calm_lawful : (c : Syscall) (r : SyscallResult) → IsCalm c r → IsLawful c r
@@ -160,6 +208,7 @@ calm_lawful c r calm = record {
   few = calm.fair.few;
   light = calm.fair.light;
   copies = calm.fair.copies;
+  words = calm.fair.words;
   break_free = calm.free;
   numbers = stays_number r.answer c.kernel r.kernel calm.stays calm.last;
   threads = calm.threads ∙ sym (stays_tids r.answer c.tid (tids c.kernel) calm.stays);
@@ -176,10 +225,10 @@ abbrev pub StillRuns : Syscall → KernelState → Type 0
 StillRuns c k = can_run c.kernel c.tid ≡ true → can_run k c.tid ≡ true
 
 -- a call that answers so and puts no byte out
-pub lawful_by : (c : Syscall) (answer : Answer) (k : KernelState) (g : Guest) → Stays answer → IsSteady c.kernel k →
-    (goes_on answer ≡ true → StillRuns c k) → IsKept c g → AreFair c.tid g.events →
+pub lawful_carries : (c : Syscall) (answer : Answer) (k : KernelState) (g : Guest) → Stays answer → IsSteady c.kernel k →
+    (goes_on answer ≡ true → StillRuns c k) → IsKept c g → AreFair c.tid (bytes_carried (number c) answer) g.events →
     IsLawful c (record { answer = answer; kernel = k; guest = g; out = None })
-lawful_by c answer k g stays same able rest fair = calm_lawful c _ (record {
+lawful_carries c answer k g stays same able rest fair = calm_lawful c _ (record {
   stays = stays;
   threads = same.threads;
   last = same.last;
@@ -189,6 +238,13 @@ lawful_by c answer k g stays same able rest fair = calm_lawful c _ (record {
   fair = fair;
   silent = λ no_write no_writev. refl;
 })
+
+-- the same of a call that carries no byte
+pub lawful_by : (c : Syscall) (answer : Answer) (k : KernelState) (g : Guest) → Stays answer → IsSteady c.kernel k →
+    (goes_on answer ≡ true → StillRuns c k) → IsKept c g → AreFair c.tid 0 g.events →
+    IsLawful c (record { answer = answer; kernel = k; guest = g; out = None })
+lawful_by c answer k g stays same able rest fair =
+    lawful_carries c answer k g stays same able rest (any_fair c.tid (bytes_carried (number c) answer) g.events fair)
 
 -- a call that changes the kernel alone
 pub lawful_changes : (c : Syscall) (k : KernelState) (value : ℕ) → IsSteady c.kernel k → StillRuns c k →
@@ -202,11 +258,13 @@ lawful_returns c value = lawful_changes c c.kernel value (steady c.kernel) (λ c
 
 -- a call that fills bytes, where they can be written, and may change the kernel
 pub lawful_fills : (c : Syscall) (k : KernelState) (value at : ℕ) (bytes : List ℕ) → IsSteady c.kernel k → StillRuns c k →
-    not (writable c at (length bytes)) ≡ false → IsLawful c (record (returns c value ▷ fills at bytes) { kernel = k })
-lawful_fills c k value at bytes same able reach =
-    lawful_by c (Back value) k (returns c value ▷ fills at bytes).guest tt same (λ goes. able)
+    length bytes ≤ bytes_carried (number c) (Back value) + 8192 → not (writable c at (length bytes)) ≡ false →
+    IsLawful c (record (returns c value ▷ fills at bytes) { kernel = k })
+lawful_fills c k value at bytes same able within reach =
+    lawful_carries c (Back value) k (returns c value ▷ fills at bytes).guest tt same (λ goes. able)
     (filled_kept c (returns c value).guest at bytes (kept c []))
-    (fill_fair c.tid at (length bytes) (writable_end c.memory at (length bytes) (not-false (writable c at (length bytes)) reach)))
+    (fill_fair c.tid (bytes_carried (number c) (Back value)) at (length bytes) within
+    (writable_end c.memory at (length bytes) (not-false (writable c at (length bytes)) reach)))
 
 -- a call that changes the pages, and in the kernel at most the break
 pub lawful_remaps : (c : Syscall) (value b : ℕ) (m : Memory) →
@@ -219,7 +277,7 @@ lawful_remaps c value b m free = calm_lawful c _ (record {
   able = λ can goes. can;
   held = λ q some. some;
   free = free;
-  fair = none_fair c.tid;
+  fair = any_fair c.tid (bytes_carried (number c) (Back value)) [] (none_fair c.tid);
   silent = λ no_write no_writev. refl;
 })
 

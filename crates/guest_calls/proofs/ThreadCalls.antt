@@ -11,11 +11,11 @@ use Rattle.guest_kernel.specs.declared.answer.Answer.TheVariants.{Back, Yield, T
 use Rattle.guest_kernel.specs.declared.thread.Thread.{Thread}
 use Rattle.guest_calls.specs.Futex.{wakes}
 use Rattle.guest_kernel.specs.Kernel.{KernelState, has_others, is_blocked, is_thread, other_threads}
-use Rattle.guest_calls.specs.Lawful.{BeginsBehind, EndsWithByte, GivesNumber, IsLawful, goes_on, tids, tids_after}
-use Rattle.guest_calls.specs.Results.{Syscall, Guest, answers, arg, fills, fills_word, returns, when, writable, ◌▷◌}
+use Rattle.guest_calls.specs.Lawful.{BeginsBehind, EndsWithByte, GivesNumber, IsLawful, bytes_carried, goes_on, tids, tids_after}
+use Rattle.guest_calls.specs.Results.{Syscall, Guest, answers, arg, fills, fills_word, number, returns, when, writable, ◌▷◌}
 use Rattle.guest_kernel.specs.Threads.{with_clear_tid}
 use Rattle.guest_calls.specs.Threads.{clear_tid, exit, exit_group, is_cleared, leaves, rt_sigprocmask, rt_sigprocmask_effect, rt_sigprocmask_tests, sched_yield, set_tid_address, status}
-use Rattle.guest_calls.proofs.Lawful.{AreFailed, AreFair, IsKept, IsSteady, fill_fair, filled_kept, kept, kept_free, lawful_by, lawful_changes, lawful_fills, lawful_returns, lawful_unless, lives_by, none_fair, steady}
+use Rattle.guest_calls.proofs.Lawful.{AreFailed, AreFair, IsKept, IsSteady, any_fair, few_bytes, fill_fair, filled_kept, kept, kept_free, lawful_by, lawful_changes, lawful_fills, lawful_returns, lawful_unless, lives_by, none_fair, steady}
 use Rattle.guest_kernel.proofs.Leaving.{cleared_lives, still_gone, tid_kept}
 use Rattle.guest_kernel.proofs.Reach.{writable_end}
 
@@ -39,7 +39,9 @@ sched_yield_is_lawful c =
 
 masked : (c : Syscall) (asked : Bool) (at : ℕ) → (asked && not (writable c at 8)) ≡ false →
     IsLawful c (when asked (fills at (replicate 8 0)) (returns c 0))
-masked c true at reach = lawful_fills c c.kernel 0 at (replicate 8 0) (steady c.kernel) (λ can. can) reach
+masked c true at reach =
+    lawful_fills c c.kernel 0 at (replicate 8 0) (steady c.kernel) (λ can. can)
+    (few_bytes 8 (bytes_carried (number c) (Back 0)) (omega arith)) reach
 masked c false at reach = lawful_returns c 0
 
 pub rt_sigprocmask_is_lawful : (c : Syscall) → IsLawful c (rt_sigprocmask c)
@@ -86,12 +88,13 @@ none_left (t ∷ threads) tid none =
 leaves_by : (c : Syscall) (answer : Answer) (k : KernelState) (g : Guest) →
     tids_after answer c.tid (tids c.kernel) ≡ filter (λ n. not (n == c.tid)) (tids c.kernel) →
     GivesNumber answer c.kernel (record k { threads = other_threads k c.tid }) → BeginsBehind c.registers.pc answer →
-    EndsWithByte answer → (goes_on answer ≡ true → ⊥) → IsSteady c.kernel k → IsKept c g → AreFair c.tid g.events →
+    EndsWithByte answer → (goes_on answer ≡ true → ⊥) → IsSteady c.kernel k → IsKept c g → AreFair c.tid 0 g.events →
     IsLawful c (record { answer = Back 0; kernel = k; guest = g; out = None } ▷ leaves c.tid ▷ answers answer)
 leaves_by c answer k g left numbers begins byte ends same rest fair = record {
   few = fair.few;
   light = fair.light;
   copies = fair.copies;
+  words = (any_fair c.tid (bytes_carried (number c) answer) g.events fair).words;
   break_free = kept_free c k g same rest;
   numbers = numbers;
   threads = filter_tids k.threads c.tid ∙ ap (filter (λ n. not (n == c.tid))) same.threads ∙ sym left;
@@ -106,7 +109,7 @@ leaves_by c answer k g left numbers begins byte ends same rest fair = record {
 
 -- by whether it is the last
 leaves_lawful : (c : Syscall) (k : KernelState) (g : Guest) (others : Bool) → has_others c.kernel c.tid ≡ others →
-    IsSteady c.kernel k → IsKept c g → AreFair c.tid g.events →
+    IsSteady c.kernel k → IsKept c g → AreFair c.tid 0 g.events →
     IsLawful c (record { answer = Back 0; kernel = k; guest = g; out = None }
     ▷ leaves c.tid ▷ answers (if others then ThreadEnd else ProcessEnd (status c)))
 leaves_lawful c k g true is same rest fair = leaves_by c ThreadEnd k g refl same.last tt tt (λ goes. cc) same rest fair
@@ -124,7 +127,7 @@ told_lawful c true at reach =
     leaves_lawful c told.kernel told.guest (has_others c.kernel c.tid) refl
     (record { threads = refl; last = refl; break_is = refl })
     (filled_kept c (returns c 0).guest at (to_le_bytes w32 0) (kept c []))
-    (fill_fair c.tid at 4 (writable_end c.memory at 4 (reach refl)))
+    (fill_fair c.tid 0 at 4 (omega arith) (writable_end c.memory at 4 (reach refl)))
 told_lawful c false at reach =
     leaves_lawful c c.kernel (returns c 0).guest (has_others c.kernel c.tid) refl (steady c.kernel) (kept c []) (none_fair c.tid)
 
@@ -141,6 +144,7 @@ exit_group_is_lawful c = record {
   few = omega arith;
   light = omega arith;
   copies = tt;
+  words = (none_fair c.tid).words;
   break_free = λ free. free;
   numbers = refl;
   threads = refl;

@@ -1,9 +1,9 @@
 -- The calls on files in parts are lawful.
-use Rattle.std.proofs.Common.{◌≡◌, ℕ, zero, suc, ◌≤◌, ◌+◌, ◌*◌, true, false, List, [], ◌∷◌, ◌++◌, length, length-append, take, drop, arith, refl, ap, ◌∙◌}
+use Rattle.std.proofs.Common.{◌≡◌, ℕ, zero, suc, ◌≤◌, ◌+◌, ◌*◌, true, false, List, [], ◌∷◌, ◌++◌, length, length-append, take, drop, arith, refl, ap, sym, ◌∙◌}
 use Rattle.std.specs.Prelude.{not, nat_lt}
 use Rattle.std.proofs.lemmas.Bool.{and_parts, not-false}
 use Rattle.std.proofs.lemmas.Bool.Decides.{nat_tests}
-use Rattle.std.proofs.lemmas.List.{length-take}
+use Rattle.std.proofs.lemmas.List.{length-take, take-append-drop}
 use Rattle.std.proofs.lemmas.List.Sums.{sum_by-cons}
 use Rattle.guest_memory.specs.Memory.{Memory}
 use Rattle.rv_exec.specs.Accesses.{can_read, can_write}
@@ -13,14 +13,14 @@ use Rattle.guest_kernel.specs.declared.answer.Answer.TheVariants.{Back}
 use Rattle.guest_kernel.specs.declared.parts.IoVec.{IoVec}
 use Rattle.guest_kernel.specs.Descriptors.{advanced}
 use Rattle.guest_kernel.specs.Kernel.{descriptor}
-use Rattle.guest_calls.specs.Lawful.{AreCopies, IsLawful}
+use Rattle.guest_calls.specs.Lawful.{AreCopies, IsLawful, words_copied}
 use Rattle.guest_kernel.specs.Copies.{fill_event, read_event}
 use Rattle.guest_calls.specs.Results.{Syscall, Guest, arg, filled, number, reads, returns, ◌▷◌}
 use Rattle.guest_kernel.specs.Parts.{all_in_reach, total}
 use Rattle.guest_calls.specs.Vectors.{filled_parts, parts, parts_at, read_events, readv, readv_bytes, readv_effect, readv_parts, readv_tests, writev, writev_count, writev_effect, writev_parts, writev_tests}
 use Rattle.guest_calls.proofs.FileCalls.{advanced_able, advanced_steady, min_few}
 use Rattle.guest_kernel.proofs.Room.{fill_few, read_few}
-use Rattle.guest_calls.proofs.Lawful.{AreFailed, AreFair, IsKept, calm_lawful, copies_append, fill_copies, fill_weight, filled_kept, kept, lawful_by, lawful_unless, read_copies, read_weight}
+use Rattle.guest_calls.proofs.Lawful.{AreFailed, AreFair, IsKept, calm_lawful, carried_fair, copies_append, fill_copies, fill_weight, fill_words, filled_kept, kept, lawful_carries, lawful_unless, read_copies, read_weight, read_words, words-append}
 use Rattle.guest_calls.proofs.PartLists.{length_carried, total_carried}
 use Rattle.guest_kernel.proofs.Reach.{readable_end, writable_end}
 
@@ -41,6 +41,21 @@ filled_weight (p ∷ ps) bytes g =
     let both = weight-append g.events (fill_event p.at (length (take p.size bytes))) in
     let one = fill_weight p.at (length (take p.size bytes)) in
     omega (arith, rest, both, one)
+
+cut : (n : ℕ) (xs : List ℕ) → length xs ≡ length (take n xs) + length (drop n xs)
+cut n xs = ap (λ (ys : List ℕ). length ys) (sym (take-append-drop n xs)) ∙ length-append (take n xs) (drop n xs)
+
+-- the bytes go to the parts once
+filled_words : (ps : List IoVec) (bytes : List ℕ) (g : Guest) →
+    4 * words_copied (filled_parts ps bytes g).events + 8 * length g.events ≤
+    4 * words_copied g.events + length bytes + 8 * length (filled_parts ps bytes g).events
+filled_words [] bytes g = omega arith
+filled_words (p ∷ ps) bytes g =
+    let n = length (take p.size bytes) in
+    let rest = filled_words ps (drop p.size bytes) (filled p.at (take p.size bytes) g) in
+    let words = words-append g.events (fill_event p.at n) in
+    let events = length-append g.events (fill_event p.at n) in
+    omega (arith, rest, words, events, fill_words p.at n, cut p.size bytes)
 
 filled_copies : (m : Memory) (tid : ℕ) (ps : List IoVec) (bytes : List ℕ) (g : Guest) →
     all_in_reach (can_write m) ps ≡ true → AreCopies tid g.events → AreCopies tid (filled_parts ps bytes g).events
@@ -76,6 +91,14 @@ parts_few tid (p ∷ ps) =
     let both = length-append (read_event tid p.at p.size) (read_events tid ps) in
     omega (arith, both, read_few tid p.at p.size, parts_few tid ps)
 
+parts_words : (tid : ℕ) (ps : List IoVec) → 4 * words_copied (read_events tid ps) ≤ total ps + 8 * length (read_events tid ps)
+parts_words tid [] = omega arith
+parts_words tid (p ∷ ps) =
+    let sum = sum_by-cons (λ (q : IoVec). q.size) p ps in
+    let words = words-append (read_event tid p.at p.size) (read_events tid ps) in
+    let events = length-append (read_event tid p.at p.size) (read_events tid ps) in
+    omega (arith, sum, words, events, read_words tid p.at p.size, parts_words tid ps)
+
 parts_copies : (m : Memory) (tid : ℕ) (ps : List IoVec) → all_in_reach (can_read m) ps ≡ true →
     AreCopies tid (read_events tid ps)
 parts_copies m tid [] reach = tt
@@ -100,19 +123,21 @@ few_of n h = grind (arith, nat_tests, h)
 
 readv_fair : (tid at n : ℕ) (ps : List IoVec) (bytes : List ℕ) (g : Guest) → n ≤ 1024 → length ps ≡ n →
     g.events ≡ read_event tid at (8 * n) →
-    AreCopies tid (filled_parts ps bytes g).events → AreFair tid (filled_parts ps bytes g).events
+    AreCopies tid (filled_parts ps bytes g).events → AreFair tid (length bytes) (filled_parts ps bytes g).events
 readv_fair tid at n ps bytes g few long is copies =
     let count : length g.events ≡ length (read_event tid at (8 * n)) = ap length is in
     let weighs : weight g.events ≡ weight (read_event tid at (8 * n)) = ap weight is in
+    let touched : words_copied g.events ≡ words_copied (read_event tid at (8 * n)) = ap words_copied is in
     record {
       few = omega (arith, filled_few ps bytes g, read_few tid at (8 * n), count, few, long);
       light = omega (arith, filled_weight ps bytes g, read_weight tid at (8 * n), weighs, few, long);
       copies = copies;
+      words = omega (arith, filled_words ps bytes g, read_words tid at (8 * n), count, touched, few);
     }
 
 writev_fair : (tid at n k : ℕ) (ps : List IoVec) → n ≤ 1024 → length ps ≡ n → total ps ≤ k → k ≤ 65536 →
     AreCopies tid (read_event tid at (8 * n)) → AreCopies tid (read_events tid ps) →
-    AreFair tid (read_event tid at (8 * n) ++ read_events tid ps)
+    AreFair tid k (read_event tid at (8 * n) ++ read_events tid ps)
 writev_fair tid at n k ps few long sum most front back = record {
   few =
       let both = length-append (read_event tid at (8 * n)) (read_events tid ps) in
@@ -121,23 +146,28 @@ writev_fair tid at n k ps few long sum most front back = record {
       let both = weight-append (read_event tid at (8 * n)) (read_events tid ps) in
       omega (arith, both, parts_weight tid ps, read_weight tid at (8 * n), few, long, sum, most);
   copies = copies_append tid (read_event tid at (8 * n)) (read_events tid ps) front back;
+  words =
+      let both = words-append (read_event tid at (8 * n)) (read_events tid ps) in
+      let events = length-append (read_event tid at (8 * n)) (read_events tid ps) in
+      omega (arith, both, events, parts_words tid ps, read_words tid at (8 * n), few, sum);
 }
 
 -- ---- the calls
-pub readv_is_lawful : (c : Syscall) → IsLawful c (readv c)
-readv_is_lawful c =
+pub readv_is_lawful : (c : Syscall) → number c ≡ 65 → IsLawful c (readv c)
+readv_is_lawful c is =
     lawful_unless c (readv_tests c) (λ _. readv_effect c)
     (λ (all : AreFailed (readv_tests c)).
     let file = descriptor c.kernel (arg c 0) in
     let n = length (readv_bytes c) in
     let read = (returns c n ▷ reads c.tid (arg c 1) (8 * arg c 2)).guest in
-    lawful_by c (Back n) (advanced file (arg c 0) n c.kernel) (filled_parts (readv_parts c) (readv_bytes c) read) tt
+    lawful_carries c (Back n) (advanced file (arg c 0) n c.kernel) (filled_parts (readv_parts c) (readv_bytes c) read) tt
     (advanced_steady file (arg c 0) n c.kernel) (λ goes. advanced_able file (arg c 0) n c.kernel c.tid)
     (parts_kept c (readv_parts c) (readv_bytes c) read (kept c _))
+    (carried_fair c 65 n (filled_parts (readv_parts c) (readv_bytes c) read).events is refl
     (readv_fair c.tid (arg c 1) (arg c 2) (readv_parts c) (readv_bytes c) read
     (few_of (arg c 2) all.1.0) (length_carried n (parts c) ∙ length_parts c.memory (arg c 1) (arg c 2)) refl
     (filled_copies c.memory c.tid (readv_parts c) (readv_bytes c) read
-    (not-false (all_in_reach (can_write c.memory) (readv_parts c)) all.1.1.1.1.0) (table_copies c all.1.1.0))))
+    (not-false (all_in_reach (can_write c.memory) (readv_parts c)) all.1.1.1.1.0) (table_copies c all.1.1.0)))))
 
 pub writev_is_lawful : (c : Syscall) → number c ≡ 66 → IsLawful c (writev c)
 writev_is_lawful c is =
@@ -150,9 +180,10 @@ writev_is_lawful c is =
       able = λ can goes. can;
       held = λ q some. some;
       free = λ free. free;
-      fair = writev_fair c.tid (arg c 1) (arg c 2) (writev_count c) (writev_parts c) (few_of (arg c 2) all.1.0)
+      fair = carried_fair c 66 (writev_count c) (writev_effect c).guest.events is refl
+          (writev_fair c.tid (arg c 1) (arg c 2) (writev_count c) (writev_parts c) (few_of (arg c 2) all.1.0)
           (length_carried (writev_count c) (parts c) ∙ length_parts c.memory (arg c 1) (arg c 2))
           (total_carried (writev_count c) (parts c)) (min_few (total (parts c))) (table_copies c all.1.1.0)
-          (parts_copies c.memory c.tid (writev_parts c) (not-false (all_in_reach (can_read c.memory) (writev_parts c)) all.1.1.1.1.0));
+          (parts_copies c.memory c.tid (writev_parts c) (not-false (all_in_reach (can_read c.memory) (writev_parts c)) all.1.1.1.1.0)));
       silent = λ no_write no_writev. absurd (no_writev is);
     }))

@@ -1,5 +1,5 @@
 -- What a system call keeps, whatever it does.
-use Rattle.std.specs.Prelude.{◌≡◌, ◌≢◌, ℕ, ◌<◌, ◌≤◌, ◌+◌, ◌%◌, ◌^◌, Bool, true, false, not, ◌==◌, List, [], ◌∷◌, ◌++◌, length, map, filter, is_some, None}
+use Rattle.std.specs.Prelude.{◌≡◌, ◌≢◌, ℕ, ◌<◌, ◌≤◌, ◌+◌, ◌*◌, ◌%◌, ◌^◌, Bool, true, false, not, ◌&&◌, ◌==◌, nat_le, List, [], ◌∷◌, ◌++◌, length, map, filter, is_some, None, if◌then◌else◌}
 use Rattle.guest_words.specs.declared.limits.TheConstants.{SYSCALL_EVENTS}
 use Rattle.trace_model.specs.declared.event_kinds.Event.{Event}
 use Rattle.trace_model.specs.declared.event_kinds.Event.TheVariants.{Read, Fill}
@@ -11,6 +11,7 @@ use Rattle.guest_kernel.specs.Threads.{is_full}
 use Rattle.guest_kernel.specs.Kernel.{KernelState, can_run, lives}
 use Rattle.guest_calls.specs.Pages.{IsBreakFree}
 use Rattle.guest_calls.specs.Results.{Syscall, SyscallResult, number}
+use Rattle.guest_calls.specs.Vectors.{part_limit}
 
 -- ---- copies
 -- the event is a copy of words of memory, from it for the thread or to it
@@ -22,6 +23,22 @@ IsCopy tid _ = ⊥
 abbrev pub AreCopies : ℕ → List Event → Type 0
 AreCopies tid [] = Unit {0}
 AreCopies tid (e ∷ events) = IsCopy tid e × AreCopies tid events
+
+-- how many words of memory an event copies
+abbrev pub count_copied : Event → ℕ
+count_copied (Read reader first count) = count
+count_copied (Fill first count) = count
+count_copied _ = 0
+
+abbrev pub words_copied : List Event → ℕ
+words_copied [] = 0
+words_copied (e ∷ events) = words_copied events + count_copied e
+
+-- read(2) 63, write(2) 64, readv(2) 65 and writev(2) 66 carry the bytes whose number they answer; no other call carries any.
+-- One that is refused copies nothing, though the number of its error counts here.
+abbrev pub bytes_carried : ℕ → Answer → ℕ
+bytes_carried call (Back value) = if nat_le 63 call && nat_le call 66 then value else 0
+bytes_carried call answer = 0
 
 -- ---- threads
 -- a new thread is one that there was room for, and has the next number, which is then the last one given; without one that stays
@@ -68,6 +85,10 @@ pub record IsLawful (c : Syscall) (r : SyscallResult) : Type 0 where
   pub light : weight r.guest.events ≤ 65536
   -- each event is a copy for the calling thread
   pub copies : AreCopies c.tid r.guest.events
+  -- the copies touch the words of the bytes that the call carries, of the table of its parts, eight bytes each, and two words
+  -- more an event; what else a call copies, as a path or a time, has fewer bytes than the longest table
+  pub words : 4 * words_copied r.guest.events ≤
+      bytes_carried (number c) r.answer + 8 * part_limit + 8 * length r.guest.events
   -- where no page from the break up to the limit is mapped, none is afterwards
   pub break_free :
       IsBreakFree c.memory c.kernel.program_break → IsBreakFree r.guest.memory r.kernel.program_break

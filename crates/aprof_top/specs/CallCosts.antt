@@ -1,0 +1,27 @@
+-- What the kernel's calls cost the profiler.
+use Rattle.std.specs.Prelude.{◌≡◌, ◌≤◌, ℕ, ◌+◌, ◌*◌, ◌/◌, List, [], ◌∷◌, length, map}
+use Rattle.guest_calls.specs.Lawful.{bytes_carried}
+use Rattle.guest_calls.specs.Results.{Syscall, number}
+use Rattle.guest_calls.specs.Table.{syscall}
+use Rattle.guest_calls.specs.Vectors.{part_limit}
+use Rattle.guest_words.specs.declared.limits.TheConstants.{SYSCALL_EVENTS}
+use Rattle.shadow_core.specs.Costs.{most_untimed}
+use Rattle.shadow_core.specs.State.{State}
+use Rattle.trace_model.specs.declared.event_kinds.Event.{Event}
+
+-- the most steps of events, each from a state of the profiler, without the ticks
+abbrev pub untimed : ℕ → List (Event × State) → ℕ
+untimed digits [] = 0
+untimed digits (met ∷ rest) = untimed digits rest + most_untimed digits met.0 met.1
+
+-- The events are few, and cost eight steps an event, and 32 and the digits of the depth a word: the words of the bytes that are
+-- carried, of a table of parts, eight bytes each, and two more an event.
+pub record CostsByBytes (digits bytes : ℕ) (met : List (Event × State)) : Type 0 where
+  pub few : length met ≤ SYSCALL_EVENTS
+  pub steps : untimed digits met ≤ 8 * length met + (32 + digits) * ((bytes + 8 * part_limit) / 4 + 2 * length met)
+
+-- So it is of the events of each call and the bytes that it carries, whatever the state of the profiler at each of them.
+abbrev pub KernelCallsCostByTheirBytes : Type 0
+KernelCallsCostByTheirBytes =
+    (c : Syscall) (digits : ℕ) (met : List (Event × State)) → map (λ m. m.0) met ≡ (syscall c).guest.events
+    → CostsByBytes digits (bytes_carried (number c) (syscall c).answer) met
