@@ -18,21 +18,37 @@ SECONDS_ON_TERMINAL, SECONDS_ELSEWHERE = 1.0, 25.0
 ERASE = "\r\033[K"
 
 
+LONE = 1.3
+"""How many times as fast a crate is proved where others leave cores to it."""
+
+
 class Estimate:
     """The time left, where what is left goes as fast as what was proved."""
 
     def __init__(self, plan: Plan, cores: int) -> None:
-        self.weights = {name: crate.weight for name, crate in plan.crates.items()}
+        self.crates, self.cores = plan.crates, cores
         self.guess, self.began = BYTES_A_SECOND * cores, time.monotonic()
 
     def left(self, proved: Set[str], kept: Set[str]) -> float:
-        """Seconds until the end. What an earlier build proved says nothing of the speed."""
+        """Seconds until the end: those of all that is left by all cores, or of the longest chain of crates that wait for one another,
+        whichever are more. What an earlier build proved says nothing of the speed."""
         seconds = time.monotonic() - self.began
         speed = (self.guess * TRUST_SECONDS + self.weight(proved)) / (TRUST_SECONDS + seconds)
-        return self.weight(self.weights.keys() - proved - kept) / speed
+        names = self.crates.keys() - proved - kept
+        lone = speed / self.cores * min(LONE, self.cores)
+        return max(self.weight(names) / speed, self.longest_chain(names) / lone)
 
     def weight(self, names: Set[str]) -> int:
-        return sum(self.weights[name] for name in names)
+        return sum(self.crates[name].weight for name in names)
+
+    def longest_chain(self, names: Set[str]) -> int:
+        """What the crates of these names weigh that wait for one another, at the most."""
+        chains = dict.fromkeys(self.crates, 0)
+        for crate in reversed(self.crates.values()):
+            chains[crate.name] += crate.weight if crate.name in names else 0
+            for below in chains.keys() & crate.words:
+                chains[below] = max(chains[below], chains[crate.name])
+        return max(chains.values())
 
 
 def duration(seconds: float) -> str:
