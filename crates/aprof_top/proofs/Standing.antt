@@ -97,7 +97,7 @@ still_held path bytes other left (Some files) after apart is =
     ∙ update_same bytes_eq files path (Some bytes) path ((bytes_eq-Decides path path).1 refl))
 
 -- ---- a store of a run failed
--- Which of two stores failed: its path has anything then.
+-- Which of two stores failed: its path may hold anything then.
 abbrev WhichFailed : List ℕ × List ℕ → List ℕ × List ℕ → List ℕ → FilesState → FilesState → Type 0
 WhichFailed first second failed old new =
     ((failed ≡ first.0) × (left : Option (List ℕ)) × (new.contents ≡ with_file first.0 left old.contents))

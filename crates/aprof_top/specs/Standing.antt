@@ -50,7 +50,7 @@ pub record GotOutput (outcome : Outcome) (before after : Outside) : Type 0 where
 abbrev pub HaveFirst : List (List ℕ × List ℕ) → FilesState → FilesState → Type 0
 HaveFirst stores old new = (count : ℕ) × (new.contents ≡ (with_stores (take count stores) old).contents)
 
--- The same, but for the path of the next store, which has anything.
+-- The same, but for the path of the next store, which may hold anything.
 pub record HaveFirstBut (stores : List (List ℕ × List ℕ)) (old new : FilesState) : Type 0 where
   pub count : ℕ
   pub store : List ℕ × List ℕ
@@ -68,12 +68,12 @@ pub record GainedPath (path : List ℕ) (old new : FilesState) : Type 0 where
   pub told : old.failed_paths ≡ Some earlier
   pub gained : new.failed_paths ≡ Some (earlier ++ path ∷ [])
 
--- the call failed at the next store: its path has anything, and a told list of failed paths gained it
+-- the call failed at the next store: its path may hold anything, and a told list of failed paths gained it
 abbrev pub FailedAtStore : List (List ℕ × List ℕ) → FilesState → FilesState → Type 0
 FailedAtStore stores old new = (first : HaveFirstBut stores old new) × (new.failed_paths ≡ with_path first.store.0 old.failed_paths)
 
 -- ---- what a call had found and decided when it ended
--- the decision whose outcome it handed out, or a part of that
+-- the decision whose outcome it handed out, whole or in part
 abbrev pub decision_of : {words : List (List ℕ)} {status : ℕ} {before after : Outside} (end : End) → EndsBy words end status before after → Option (Decision words before.files after.files)
 decision_of (Decided verdict) ends = Some ends.reached.0
 decision_of (CannotRead path) ends = None
@@ -81,7 +81,7 @@ decision_of CannotWrite ends = Some ends.reached.decision
 decision_of CannotPut ends = Some ends.reached.decision
 decision_of OutOfMemory ends = ends.reached.decision
 
--- what it had found for that, or before a load failed
+-- what it had found for that decision, or before a load failed
 abbrev pub found_of : {words : List (List ℕ)} {status : ℕ} {before after : Outside} (end : End) → EndsBy words end status before after → Option (Found words before.files after.files)
 found_of (CannotRead path) ends = Some ends.reached.found
 found_of end ends = option_map (λ decision. decision.found) (decision_of end ends)

@@ -72,8 +72,9 @@ pub fn runs_are_bounded()
     runs_stay_within();
 }
 
-/// What a kernel call costs the profiler, without the ticks, is bounded by the bytes that it carries, a table of 1024 parts
-/// and its events, whatever the states of the profiler at these: 8 steps an event, and 32 and the digits of the depth a word.
+/// What the copies of a kernel call cost the profiler, without their ticks, is at most 8 steps for each event, and 32 and the
+/// binary digits of the depth for each word that the bytes carried and a table of 1024 parts fill, and for two more words an
+/// event, whatever the state of the profiler at each.
 pub fn kernel_calls_cost_by_their_bytes()
     ensures { KernelCallsCostByTheirBytes }
 {

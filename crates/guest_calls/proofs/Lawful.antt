@@ -31,7 +31,7 @@ pub record AreFair (tid bytes : ℕ) (events : List Event) : Type 0 where
   pub copies : AreCopies tid events
   pub words : 4 * words_copied events ≤ bytes + 8192 + 8 * length events
 
--- those that carry no bytes may carry any
+-- what is fair for no bytes is fair for any number of them
 pub any_fair : (tid bytes : ℕ) (events : List Event) → AreFair tid 0 events → AreFair tid bytes events
 any_fair tid bytes events fair = record {
   few = fair.few;
@@ -124,7 +124,7 @@ pub carried_fair : (c : Syscall) (call n : ℕ) (events : List Event) → number
 carried_fair c call n events is all fair =
     subst (λ (bytes : ℕ). AreFair c.tid bytes events) (sym (answered c call n is all)) fair
 
--- few bytes need not be carried
+-- so few bytes are within the longest table
 pub few_bytes : (n bytes : ℕ) → n ≤ 8192 → n ≤ bytes + 8192
 few_bytes n bytes few = omega (arith, few)
 

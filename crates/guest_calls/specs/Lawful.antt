@@ -35,7 +35,7 @@ words_copied [] = 0
 words_copied (e ∷ events) = words_copied events + count_copied e
 
 -- read(2) 63, write(2) 64, readv(2) 65 and writev(2) 66 carry the bytes whose number they answer; no other call carries any.
--- One that is refused copies nothing, though the number of its error counts here.
+-- One that is refused copies nothing, though its answer, 2 ^ 32 less the number of the error, counts here.
 abbrev pub bytes_carried : ℕ → Answer → ℕ
 bytes_carried call (Back value) = if nat_le 63 call && nat_le call 66 then value else 0
 bytes_carried call answer = 0
@@ -85,8 +85,8 @@ pub record IsLawful (c : Syscall) (r : SyscallResult) : Type 0 where
   pub light : weight r.guest.events ≤ 65536
   -- each event is a copy for the calling thread
   pub copies : AreCopies c.tid r.guest.events
-  -- the copies touch the words of the bytes that the call carries, of the table of its parts, eight bytes each, and two words
-  -- more an event; what else a call copies, as a path or a time, has fewer bytes than the longest table
+  -- the copies touch at most the words that the bytes carried and the longest table of parts, of eight bytes each, fill, and
+  -- two more for each event; what else a call copies, such as a path or a time, has fewer bytes than that table
   pub words : 4 * words_copied r.guest.events ≤
       bytes_carried (number c) r.answer + 8 * part_limit + 8 * length r.guest.events
   -- where no page from the break up to the limit is mapped, none is afterwards

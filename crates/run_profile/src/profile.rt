@@ -29,7 +29,7 @@ pub struct Profile<S: Lanes, K: Keeper> {
     profiler: Profiler<S>,
     kept: K,
     // The newest event, where the keeper is still to take it: an event that was taken is not refused for lack of a point or a
-    // context. And what ended at the newest event: a return that the profiler takes by its quick way ends one activation.
+    // context. What ended at it is `one`, where the profiler took a return by its quick way, and otherwise `ended`.
     next: Option<Event>,
     one: Option<Done>,
     ended: Vec<Done>,
@@ -66,7 +66,7 @@ fn steps_of(e: &Event) -> u64
     }
 }
 
-// Keeps a copy.
+// Puts a copy of the record in the place.
 #[inline(always)]
 fn keep_one(place: &mut Option<Done>, one: &Done)
     ensures { place.new ≡ Some one.now }
@@ -146,7 +146,8 @@ impl<S: Lanes, K: Keeper> Profile<S, K> {
         self.kept.take(e, &self.ended)
     }
 
-    // The same behind an event that was taken. If the keeper is out of memory now, it is asked again before the next event.
+    // Hands the newest event, which was just taken, to the keeper. If that is out of memory now, it is asked again before the
+    // next event.
     #[inline(never)]
     fn hand_on(&mut self) -> Answer
         requires { IsOfFormed S.MAX K.holds self.old }
@@ -158,8 +159,8 @@ impl<S: Lanes, K: Keeper> Profile<S, K> {
         Answer::Taken
     }
 
-    // The same before an event, and true; but false, with nothing handed on, where this event is too deep. Where the keeper
-    // has taken all, the event is not tested here, since `apply` tests it.
+    // Hands the newest event to the keeper before this one, and true; but false, with nothing handed on, where this event is too
+    // deep. Where the keeper has taken all, the event is not tested here, since `apply` tests it.
     #[inline(always)]
     fn make_ready(&mut self, e: &Event) -> Result<bool, AllocError>
         requires { MayTake (IsProfileOf S.MAX K.holds) self.old e.now }
