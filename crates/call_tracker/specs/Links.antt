@@ -1,5 +1,5 @@
--- Calls and returns by the link registers: the hints for a return-address stack in the RISC-V unprivileged
--- specification, "Unconditional Jumps".
+-- Calls and returns by the link registers: the hints for a return-address stack in the RISC-V unprivileged ISA
+-- manual, "Unconditional Jumps".
 use Rattle.std.specs.Prelude.{ℕ, Bool, true, false, ◌||◌, ◌==◌, if◌then◌else◌}
 use Rattle.rv_isa.specs.declared.instruction.Instr.{Instr}
 use Rattle.rv_isa.specs.declared.instruction.Instr.TheVariants.{Jal, Jalr}

@@ -1,7 +1,7 @@
 //! Calls and returns: which jumps are which, by the link registers x1 and x5 of the return-address stack of the RISC-V
-//! unprivileged specification, and the open calls of a thread and of all threads. Contracts see the open calls as a list,
-//! and those of one thread beside how many can be pushed without allocating. A call may be kept with what its thread had counted
-//! when it began.
+//! unprivileged ISA manual, and the open calls of a thread and of all threads. Contracts see the open calls as a list, and
+//! those of one thread beside how many can be pushed without allocating. A call may be kept with what its thread had
+//! counted when it began.
 #![tactic(auto)]
 
 mod call_stacks;

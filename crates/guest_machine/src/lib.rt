@@ -1,5 +1,5 @@
 //! The machine that runs a guest: the live threads with their registers, the kernel, memory and reservations, and one step
-//! of one thread. Instructions are those of the RISC-V unprivileged specification, calls those of Linux on riscv32, and
+//! of one thread. Instructions are those of the RISC-V unprivileged ISA manual, calls those of Linux on riscv32, and
 //! the start is that of the ELF gABI and the System V ABI.
 //!
 //! Contracts see a machine as one state (specs/Machine.antt), `step` as one definition (specs/Step.antt), and a new machine

@@ -1,5 +1,5 @@
 //! The memory of a 32-bit guest: pages of 4096 bytes, each mapped with rights or not, in a space of 2^32 bytes, and the
-//! words that threads have reserved, by load-reserved of the RISC-V unprivileged specification.
+//! words that threads have reserved, by load-reserved of the RISC-V unprivileged ISA manual.
 //!
 //! Memory is seen as two maps, from pages to rights and from addresses to bytes; reservations as one, from threads to
 //! words.
