@@ -1,13 +1,14 @@
 #!/usr/bin/env python3
-"""bench/peers.py [PROGRAM]: one C source, built for the host and for the guest, under the host itself, under callgrind,
-under qemu-riscv32 one instruction at a time (Debian's qemu-user, where it is installed), and under aprof, all in one run.
-Prints for each the instructions that it ran of the source, the seconds, and the ratio to the host's own time. Times are the
-least and the greatest of three runs, the ratio is that of the least ones, and all are of the source alone: the least time of
-a source that does nothing is taken off."""
+"""bench/peers.py [--runs N] [PROGRAM]: one C source, built for the host and for the guest, under the host itself, under
+callgrind, under qemu-riscv32 one instruction at a time (Debian's qemu-user, where it is installed), and under aprof.
+The four run in turn, so many times, so that what else the machine does slows all of them. Prints for each the instructions
+that it ran of the source, and the seconds of the clock and of the processor: the least, the median and the greatest. All are
+of the source alone: the least time of a source that does nothing is taken off."""
 from __future__ import annotations
 
 import re
 import shutil
+import statistics
 import subprocess
 import tempfile
 from collections.abc import Callable, Sequence
@@ -15,12 +16,16 @@ from dataclasses import dataclass
 from pathlib import Path
 
 import host
-from host import TOP, Word
+from host import TOP, Ended, Word
 
 SOURCE = TOP / "bench/peers/mixed.c"
 OPTIONS = ["-O1", "-fno-inline", "-fno-builtin", "-fno-optimize-sibling-calls", "-fno-unroll-loops"]
 GUEST = ["--target=riscv32", "-march=rv32ima", "-mabi=ilp32", "-static", "-nostdlib", "-ffreestanding", "-fuse-ld=lld"]
 ROUNDS = 400
+QEMU = "qemu, one at a time"
+OF_THE_GUEST = ("aprof", QEMU)
+
+Commands = dict[str, list[Word]]
 
 
 @dataclass(frozen=True)
@@ -33,15 +38,21 @@ class Built:
 
 @dataclass(frozen=True)
 class Times:
-    """The least and the greatest of some times, in seconds."""
+    """The least, the median and the greatest of some times, in seconds."""
 
     least: float
+    median: float
     greatest: float
 
+    @staticmethod
+    def beyond(few: Sequence[float], many: Sequence[float]) -> Times:
+        """Of long runs, less the least of the short ones."""
+        start = min(few)
+        return Times(min(many) - start, statistics.median(many) - start, max(many) - start)
+
     def told(self, digits: int, scale: float = 1.0) -> str:
-        """Both times the scale, or one where they are shown alike."""
-        least, greatest = (f"{time * scale:.{digits}f}" for time in (self.least, self.greatest))
-        return least if least == greatest else f"{least} to {greatest}"
+        """All three times the scale."""
+        return ", ".join(f"{time * scale:.{digits}f}" for time in (self.least, self.median, self.greatest))
 
 
 def build(folder: Path, rounds: int) -> Built:
@@ -52,15 +63,15 @@ def build(folder: Path, rounds: int) -> Built:
     return built
 
 
-def peers(program: Path, built: Built) -> dict[str, list[Word]]:
+def peers(program: Path, built: Built) -> Commands:
     """The command line of each."""
-    found: dict[str, list[Word]] = {
+    found: Commands = {
         "the host": [built.native],
         "callgrind": ["valgrind", "--tool=callgrind", "--callgrind-out-file=callgrind.out", built.native],
         "aprof": [program, "run", "-o", "r", built.guest],
     }
     if shutil.which("qemu-riscv32"):
-        found["qemu, one at a time"] = ["qemu-riscv32", "-singlestep", built.guest]
+        found[QEMU] = ["qemu-riscv32", "-singlestep", built.guest]
     return found
 
 
@@ -82,41 +93,54 @@ def steps(folder: Path) -> int:
     return first_number(r"steps (\d+)", folder / "r")
 
 
-def times_beyond(few: Sequence[Word], many: Sequence[Word], folder: Path) -> Times:
-    """The times of a command, of three runs, less the least time of a shorter one."""
-    long, short = ([host.seconds(words, folder, subprocess.DEVNULL) for _ in range(3)] for words in (many, few))
-    return Times(min(long) - min(short), max(long) - min(short))
+def run(words: Sequence[Word], folder: Path) -> Ended:
+    """Runs a command that has to end with status 0."""
+    ended = host.run(words, folder=folder, stderr=subprocess.DEVNULL)
+    if ended.status:
+        raise SystemExit(f"bench/peers.py: {words[0]} ended with status {ended.status}")
+    return ended
+
+
+def in_turn(few: Commands, many: Commands, folder: Path, runs: int) -> dict[str, list[tuple[Ended, Ended]]]:
+    """So many short and long runs of each, one of each after the other."""
+    ended: dict[str, list[tuple[Ended, Ended]]] = {name: [] for name in many}
+    for _ in range(runs):
+        for name, pairs in ended.items():
+            pairs.append((run(few[name], folder), run(many[name], folder)))
+    return ended
 
 
 def count_beyond(few: Sequence[Word], many: Sequence[Word], folder: Path, count: Callable[[Path], int]) -> int:
     """How many instructions a command runs more than a shorter one."""
     counts = []
     for words in (few, many):
-        host.seconds(words, folder, subprocess.DEVNULL)
+        run(words, folder)
         counts.append(count(folder))
     return counts[1] - counts[0]
 
 
-def compare(program: Path, folder: Path) -> None:
+def compare(program: Path, folder: Path, runs: int) -> None:
     """Prints the table."""
     few, many = (peers(program, build(folder, rounds)) for rounds in (0, ROUNDS))
-    taken = {name: times_beyond(few[name], many[name], folder) for name in many}
     natives, guests = (count_beyond(few[name], many[name], folder, count)
                        for name, count in (("callgrind", instructions), ("aprof", steps)))
-    ran = {"the host": natives, "callgrind": natives, "aprof": guests, "qemu, one at a time": guests}
-    print("| Under | Instructions | Seconds | ns an instruction | to the host |")
+    print("| Under | Instructions | Seconds of the clock | of the processor | ns of the processor an instruction |")
     print("|---|---|---|---|---|")
-    for name, times in taken.items():
-        ratio = times.least / taken["the host"].least
-        print(f"| {name} | {ran[name]} | {times.told(3)} | {times.told(1, 1e9 / ran[name])} | {ratio:.0f} |")
+    for name, pairs in in_turn(few, many, folder, runs).items():
+        clock = Times.beyond(*zip(*((short.clock, long.clock) for short, long in pairs)))
+        processor = Times.beyond(*zip(*((short.processor, long.processor) for short, long in pairs)))
+        ran = guests if name in OF_THE_GUEST else natives
+        print(f"| {name} | {ran} | {clock.told(3)} | {processor.told(3)} | {processor.told(1, 1e9 / ran)} |", flush=True)
 
 
 def main() -> None:
     """Compares in a folder that is removed."""
     parser = host.parser(__doc__)
+    parser.add_argument("--runs", type=int, default=3, metavar="N", help="how many runs of each; 3 unless given")
     host.add_program(parser)
+    words = parser.parse_args()
     with tempfile.TemporaryDirectory() as folder:
-        compare(parser.parse_args().program, Path(folder))
+        compare(words.program, Path(folder), words.runs)
 
 
 if __name__ == "__main__":

@@ -63,8 +63,8 @@ class Gate(unittest.TestCase):
 
 class Peers(unittest.TestCase):
     def test_times(self) -> None:
-        self.assertEqual(Times(0.0131, 0.0142).told(3), "0.013 to 0.014")
-        self.assertEqual(Times(0.0131, 0.0134).told(3), "0.013")
+        self.assertEqual(Times(0.0131, 0.0134, 0.0142).told(3), "0.013, 0.013, 0.014")
+        self.assertEqual(Times.beyond([1.5, 1.0], [4.0, 2.0, 3.0]), Times(1.0, 2.0, 3.0))
 
 
 class Refused(unittest.TestCase):
