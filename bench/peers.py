@@ -6,6 +6,7 @@ that it ran of the source, and the seconds of the clock and of the processor: th
 of the source alone: the least time of a source that does nothing is taken off."""
 from __future__ import annotations
 
+import argparse
 import re
 import shutil
 import statistics
@@ -133,10 +134,18 @@ def compare(program: Path, folder: Path, runs: int) -> None:
         print(f"| {name} | {ran} | {clock.told(3)} | {processor.told(3)} | {processor.told(1, 1e9 / ran)} |", flush=True)
 
 
+def number(word: str) -> int:
+    """A number of runs, for a parser."""
+    found = int(word)
+    if found < 1:
+        raise argparse.ArgumentTypeError("at least one run is needed")
+    return found
+
+
 def main() -> None:
     """Compares in a folder that is removed."""
     parser = host.parser(__doc__)
-    parser.add_argument("--runs", type=int, default=3, metavar="N", help="how many runs of each; 3 unless given")
+    parser.add_argument("--runs", type=number, default=3, metavar="N", help="how many runs of each; 3 unless given")
     host.add_program(parser)
     words = parser.parse_args()
     with tempfile.TemporaryDirectory() as folder:
