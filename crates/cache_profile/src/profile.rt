@@ -162,7 +162,7 @@ impl<K: Shaped> CacheProfile<K> {
         };
         let place = self.routines.find_or_insert(none)?;
         let event = access_words(&mut self.cache, first, count);
-        let routine = self.routines.at_mut(place);
+        let routine = self.routines.at_mut(u64::from(entry), place);
         routine.add(event.accesses, event.misses);
         self.progress.pass(e);
         Ok(())

@@ -95,7 +95,7 @@ pub(crate) fn stands_at<T: Keyed>(blocks: &[Vec<T>], place: Place, key: u64) -> 
     false
 }
 
-/// Where the key stands, or where it would go. The place of the item that was changed last is tried first.
+/// Where the key stands, or where it would go. The place that is given is tried first.
 #[inline(always)]
 pub(crate) fn find<T: Keyed>(blocks: &[Vec<T>], last: Place, key: u64) -> Result<Place, Place>
     requires filled { IsFilled (map (λ b. b.items) blocks.now) }

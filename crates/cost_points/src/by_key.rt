@@ -11,6 +11,9 @@ use crate::indexes;
 use std::alloc::{AllocError, Global};
 use std::marker::Model;
 
+// How many places are remembered.
+const SLOTS: usize = 64;
+
 /// Items in blocks, for rising keys: a new one moves the rest of its block, and no other item. Contracts see the blocks, each
 /// as the list of its items.
 #[derive(Drop)]
@@ -19,8 +22,8 @@ pub struct ByKey<T> {
     count: usize,
     // The index of the first item of each block, of the first blocks up to one.
     starts: Vec<usize>,
-    // The place of the item that was changed last.
-    last: Place,
+    // The places that were found last, each in the slot of its key. The item there may be another one by now.
+    recent: [Place; SLOTS],
 }
 
 impl<T> Model for ByKey<T> {
@@ -34,14 +37,12 @@ impl<T> Model for ByKey<T> {
     ghost invariant = { λ k. AreIndexed (map (λ b. b.items) k.blocks.items) k.count k.starts.items };
 }
 
-// The place becomes another one. Mostly it is that already, and nothing is written.
+// The slot of a key. Keys are mostly addresses of code, and so multiples of 4.
 #[inline(always)]
-fn note(last: &mut Place, place: Place)
-    ensures { last.new ≡ place }
+fn slot_of(key: u64) -> usize
+    ensures { result < 64 }
 {
-    if *last != place {
-        *last = place;
-    }
+    (key >> 2) as usize % SLOTS
 }
 
 impl<T> ByKey<T> {
@@ -54,15 +55,15 @@ impl<T> ByKey<T> {
         self.count
     }
 
-    /// The item at a place, for writing.
+    /// The item at a place, for writing. The place is remembered for a key.
     #[inline(always)]
-    pub fn at_mut(&mut self, place: Place) -> &mut T
+    pub fn at_mut(&mut self, key: u64, place: Place) -> &mut T
         requires block { place.block < length self.old }
         requires at { place.at < length (get_or self.old place.block []) }
         ensures* writes_back { sem 𝓛 (lends_item T.row self.entry place.block place.at result) }
         ensures found { result.now ≡ get_or (get_or self.old place.block []) place.at result.now }
     {
-        note(&mut self.last, place);
+        self.recent[slot_of(key)] = place;
         let block = &mut self.blocks[place.block];
         &mut block[place.at]
     }
@@ -98,11 +99,11 @@ impl<T: Keyed + Drop> ByKey<T> {
             blocks,
             count: 0,
             starts,
-            last: Place::FIRST,
+            recent: [Place::FIRST; SLOTS],
         })
     }
 
-    /// Where the key stands, or where it would go. The place of the item that was changed last is tried first.
+    /// Where the key stands, or where it would go. The place that is remembered is tried first.
     #[inline(always)]
     pub fn find(&self, key: u64) -> Result<Place, Place>
         requires { IsRising (map T.key_of (joined self.now)) }
@@ -110,17 +111,18 @@ impl<T: Keyed + Drop> ByKey<T> {
             (λ p. IsPlaceOf T.key_of self.now key p.block p.at)
             (λ p. IsGapOf T.key_of self.now key p.block p.at) }
     {
-        blocks::find(&self.blocks, self.last, key)
+        blocks::find(&self.blocks, self.recent[slot_of(key)], key)
     }
 
-    /// The place of the item that was changed last, if it has the key.
+    /// Where the key stands, if that is remembered.
     #[inline(always)]
-    pub fn last_place(&self, key: u64) -> Option<Place>
+    pub fn recent_place(&self, key: u64) -> Option<Place>
         requires { IsRising (map T.key_of (joined self.now)) }
         ensures { IfSome result (λ p. IsPlaceOf T.key_of self.now key p.block p.at) }
     {
-        if blocks::stands_at(&self.blocks, self.last, key) {
-            Some(self.last)
+        let place = self.recent[slot_of(key)];
+        if blocks::stands_at(&self.blocks, place, key) {
+            Some(place)
         } else {
             None
         }
@@ -139,9 +141,9 @@ impl<T: Keyed + Drop> ByKey<T> {
         ensures err { OnErr result (joined self.new ≡ joined self.old) }
     {
         self.starts.truncate(place.block + 1);
-        self.last = blocks::insert(&mut self.blocks, place, item)?;
+        let placed = blocks::insert(&mut self.blocks, place, item)?;
         self.count += 1;
-        Ok(self.last)
+        Ok(placed)
     }
 
     /// The place of the item that has the key of this one. Where there is none, this one takes its place. A refusal changes no

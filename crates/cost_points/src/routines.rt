@@ -43,17 +43,18 @@ pub(crate) fn add_one(
         → r.entry ≡ ended.now.entry → IsAt (map (λ p. p.size) r.points) ended.now.size place
         → IsOk result }
 {
-    match routines.find(u64::from(ended.entry)) {
+    let key = u64::from(ended.entry);
+    match routines.find(key) {
         Ok(place) => {
-            let routine = routines.at_mut(place);
+            let routine = routines.at_mut(key, place);
             routine.add_one(ended)
         }
         Err(place) => add_routine(routines, alloc, place, ended.entry, Point::of_one(*ended)),
     }
 }
 
-/// One more activation, if it is of the routine that was changed last and its size is that routine's last one, and true; else
-/// false, and no routine changes.
+/// One more activation, if the place of its routine is remembered and its size is that routine's last one, and true; else false,
+/// and no routine changes.
 #[inline(always)]
 pub(crate) fn add_last(routines: &mut ByKey<RoutinePoints>, ended: &Done) -> bool
     requires parts { HasParts ended.now }
@@ -64,9 +65,10 @@ pub(crate) fn add_last(routines: &mut ByKey<RoutinePoints>, ended: &Done) -> boo
         (joined routines.old) }
     ensures same { result ≡ false → joined routines.new ≡ joined routines.old }
 {
-    match routines.last_place(u64::from(ended.entry)) {
+    let key = u64::from(ended.entry);
+    match routines.recent_place(key) {
         Some(place) => {
-            let routine = routines.at_mut(place);
+            let routine = routines.at_mut(key, place);
             routine.add_last(ended)
         }
         None => false,
@@ -110,9 +112,10 @@ pub(crate) fn add(
     ensures no_allocation { (at place : ℕ) (r : Routine) → slice_get (joined routines.old) at ≡ Some r
         → r.entry ≡ entry → IsAt (map (λ p. p.size) r.points) point.size place → IsOk result }
 {
-    match routines.find(u64::from(entry)) {
+    let key = u64::from(entry);
+    match routines.find(key) {
         Ok(place) => {
-            let routine = routines.at_mut(place);
+            let routine = routines.at_mut(key, place);
             routine.add(point)
         }
         Err(place) => add_routine(routines, alloc, place, entry, point),

@@ -93,8 +93,8 @@ impl Table {
         Ok(())
     }
 
-    /// One more activation, if it is of the routine that was changed last and its size is that routine's last one, and true; else
-    /// false, and nothing changes. It needs no search and no memory.
+    /// One more activation, if the place of its routine is remembered and its size is that routine's last one, and true; else false,
+    /// and nothing changes. It needs no search and no memory.
     #[inline(always)]
     pub fn add_last(&mut self, ended: &Done) -> bool
         requires few { self.old.members < 2 ^ 63 }
