@@ -1,5 +1,5 @@
 -- The run of an executable, by the parts that make it.
-use Rattle.std.proofs.Common.{◌≡◌, ℕ, Bool, List, Option, Some, None, IfSome, IfNone, Ok, Err, refl, ap, ◌∙◌, inl, inr}
+use Rattle.std.proofs.Common.{◌≡◌, ℕ, Bool, List, Option, None, Ok, Err, ap, ◌∙◌, inr}
 use Rattle.trace_model.specs.declared.event_kinds.Event.{Event}
 use Rattle.command_line.specs.Options.{GuestOptions}
 use Rattle.guest_machine.specs.declared.setup.SetupError.{SetupError}
@@ -17,18 +17,9 @@ use Rattle.guest_run.specs.Run as runs
 use Rattle.guest_run.specs.RunEnds.{RunEnds}
 use Rattle.thread_sched.specs.TurnRule.{SchedulerState}
 use Rattle.thread_sched.specs.declared.entry.Entry.{Entry}
-use Rattle.aprof_top.specs.Private.Ending.{of_run, of_setup}
+use Rattle.aprof_top.specs.Private.Ending.{of_run}
 use Rattle.aprof_top.specs.Private.Jobs.{ImageRuns}
 use Rattle.aprof_top.specs.Run.{observed_from}
-
--- the guest can't begin
-pub ImageRuns-unbegun : {W : Type 0} (Stands : W → List Event → Type 0) (refusal : Option SetupError) (seen : ObservedRun) (before : Sinks) (observer : W) (e : SetupError) →
-    IfSome refusal (λ why. e ≡ why) → IfNone refusal (e ≡ setup.Memory) → ImageRuns Stands refusal seen before observer before (Err (of_setup e))
-ImageRuns-unbegun Stands refusal seen before observer setup.Memory some none = inl refl
-ImageRuns-unbegun Stands None seen before observer setup.ArgsTooLong some none = absurd (cc)
-ImageRuns-unbegun Stands None seen before observer setup.Pages some none = absurd (cc)
-ImageRuns-unbegun Stands (Some why) seen before observer setup.ArgsTooLong some none = (refl, tt, refl)
-ImageRuns-unbegun Stands (Some why) seen before observer setup.Pages some none = (refl, tt, refl)
 
 -- its run ends
 pub ImageRuns-run : {W : Type 0} (Stands : W → List Event → Type 0) (refusal : Option SetupError) (seen : ObservedRun) (before : Sinks) (observer : W) (after : Sinks) → refusal ≡ None → (ended : Ended) →

@@ -1,6 +1,6 @@
 -- One more file of a command.
 use Rattle.std.proofs.Common.{◌≡◌, ℕ, zero, suc, ◌+◌, ◌<◌, ◌≤◌, Bool, true, false, ◌||◌, List, [], ◌∷◌, ◌++◌, Option, Some, None, refl, sym, ap, ap₂, ◌∙◌, inl, inr, arith, append-nil, get_or, length, map, subst}
-use Rattle.std.specs.Prelude.{IsSomeAnd, filter, fold, if◌then◌else◌, nat_lt, replicate, slice_get, sum_by, zip}
+use Rattle.std.specs.Prelude.{IsSomeAnd, filter, fold, nat_lt, replicate, slice_get, sum_by, zip}
 use Rattle.std.specs.List.{AllByRecursion, list_any}
 use Rattle.std.proofs.lemmas.Bool.Decides.{nat_tests}
 use Rattle.std.proofs.lemmas.List.{length-append, length-replicate}
@@ -12,7 +12,7 @@ use Rattle.host_io.specs.Files.{Contents, ExceedsLimit, FailsAt, FilesState, Giv
 use Rattle.aprof_top.specs.Limits.{inputs_limit}
 use Rattle.aprof_top.specs.Loads.{Load, Loaded, file_for, inputs_of, is, is_shared, limit_of, load, loaded_for, loaded_of, passes_limit, paths_in, shared_bytes}
 use Rattle.aprof_top.specs.Outside.{AreHeld, MetTooLong}
-use Rattle.aprof_top.specs.Private.Loading.{AreFirst, AreWithin, FileEnds, LoadsAll, LoadsEnd, PassesLimit, load_in, used_for, no_files, with_file}
+use Rattle.aprof_top.specs.Private.Loading.{AreFirst, AreWithin, FileEnds, LoadsEnd, PassesLimit, load_in, used_for, no_files, with_file}
 use Rattle.aprof_top.specs.declared.ending.CommandEnding.{CommandEnding}
 use Rattle.aprof_top.specs.declared.ending.CommandEnding.TheVariants.{CannotRead, Ended}
 use Rattle.aprof_top.specs.declared.ending.Ending.TheVariants.{Decided, CannotWrite, CannotPut, OutOfMemory}
@@ -197,15 +197,6 @@ IsLoading-none loads loaded old none = record {
   sum_is = ap (sum_by shared_bytes) (sym (zip_none loads));
   loaded_is = none ∙ none_loaded loads;
   same = refl;
-}
-
-pub IsLoading-all : (loads : List Load) (count sum : ℕ) (loaded : Loaded) (old now : FilesState) → IsLoading loads count sum loaded old now → count ≡ length loads → LoadsAll loads old now loaded
-IsLoading-all loads count sum loaded old now so_far all = record {
-  files = so_far.files;
-  first = so_far.first;
-  all = so_far.count_is ∙ all;
-  loaded_is = so_far.loaded_is;
-  same = so_far.same;
 }
 
 module _ (loads : List Load) (count sum : ℕ) (loaded : Loaded) (next : Load) (old mid now : FilesState) (so_far : IsLoading loads count sum loaded old mid) (next_is : slice_get loads count ≡ Some next) where

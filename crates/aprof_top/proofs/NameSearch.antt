@@ -1,7 +1,7 @@
 -- What a binary search finds among names by rising entry.
 use Rattle.std.proofs.Common.{◌≡◌, ℕ, ◌<◌, ◌≤◌, false, List, [], length, get_or, Some, None, Result, Ok, Err, refl, inl, inr, sym, ap, ◌∙◌, arith, eqb}
 use Rattle.std.specs.List.{AllPairs, find, slice_get}
-use Rattle.std.specs.Option.{MatchOption, option_map}
+use Rattle.std.specs.Option.{MatchOption}
 use Rattle.std.specs.Result.{result_ok}
 use Rattle.std.specs.List.Sorted.{IsSearchInRange, IsBinarySearchResult, IsNonDecreasingBy}
 use Rattle.std.specs.Ordering.{nat_cmp, ordering_index}
@@ -11,7 +11,6 @@ use Rattle.std.proofs.lemmas.List.Recursion.{found_at, found_nowhere}
 use Rattle.std.proofs.lemmas.List.Sorted.{IsNonDecreasingBy-from_default}
 use Rattle.std.proofs.lemmas.Option.{slice_get-get_or}
 use Rattle.std.proofs.lemmas.Bool.Decides.{nat_tests}
-use Rattle.elf_image.specs.Image.{name_beside}
 
 -- an entry and its name
 abbrev Named : Type 0
@@ -46,7 +45,3 @@ module _ (xs : List Named) (up : AllPairs (λ (s t : Named). s.0 < t.0) xs) (x :
             let above : x < (get_or xs k no_name).0 = ranked _ x _ (sym ((parted comparisons_rise).1 k no_name past within)) in
             ne_eqb _ _ (λ e. omega (arith, above, e))
       ])
-
--- what was found is the name beside the entry
-pub named_by : (xs : List Named) (x at : ℕ) (found : Named) → find (λ (n : Named). eqb n.0 x) xs ≡ slice_get xs at → slice_get xs at ≡ Some found → Some found.1 ≡ name_beside xs x
-named_by xs x at found is there = sym (ap (option_map (λ (n : Named). n.1)) (is ∙ there))

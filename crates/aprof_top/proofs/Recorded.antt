@@ -1,61 +1,34 @@
 -- What the commands beside `run` make of a run, and what becomes of it.
-use Rattle.std.proofs.Common.{◌≡◌, ◌∙◌, ◌<◌, ◌≤◌, ℕ, Bool, true, false, List, [], ◌∷◌, ◌++◌, Option, Some, None, refl, ap, sym, subst, length, length-append, arith}
-use Rattle.std.specs.Prelude.{if◌then◌else◌, Err, Result}
+use Rattle.std.proofs.Common.{◌≡◌, ◌∙◌, ◌<◌, ◌≤◌, ℕ, Bool, true, List, [], ◌∷◌, ◌++◌, Option, Some, None, refl, ap, sym, subst, length, arith}
+use Rattle.std.specs.Prelude.{Err, Result}
 use Rattle.std.proofs.lemmas.Bool.Decides.{nat_tests}
 use Rattle.std.specs.List.{All, flat_map}
 use Rattle.std.specs.Option.{option_map, option_to_list}
 use Rattle.std.proofs.lemmas.List.Elements.{All-cons, All-nil, All-tail}
 use Rattle.std.proofs.lemmas.List.Kept.{AllPairs-cons}
-use Rattle.std.proofs.lemmas.Grind.{flat_map-append}
 use Rattle.cost_points.specs.Keys as keys
 use Rattle.cost_points.proofs.Rising.{IsRising-above, IsRising-rising, IsRising-tail}
 use Rattle.elf_image.specs.Image.{Executable, name_of}
 use Rattle.guest_run.specs.ObservedRun.{ObservedRun}
-use Rattle.guest_words.specs.declared.endings.Finish.{Finish}
 use Rattle.stored_traces.specs.Entries.{entries_begun, entry_begun}
-use Rattle.stored_traces.specs.Kept.{IsTooLong}
-use Rattle.trace_file.specs.Records.{record_bytes}
-use Rattle.trace_file.specs.declared.records.Record.{Record}
-use Rattle.trace_file.specs.TraceText.{IsRising, Names, event_records, finish_records, magic, name_records, text_of, trace_text}
+use Rattle.trace_file.specs.TraceText.{IsRising, Names}
 use Rattle.trace_model.specs.declared.event_kinds.Event.{Event}
 use Rattle.host_io.specs.Files.{FilesState, StoreEnds}
 use Rattle.host_io.specs.Sink.{SinkState}
 use Rattle.host_io.specs.declared.files.StoreError.{StoreError}
 use Rattle.host_io.specs.declared.files.StoreError.TheVariants as store
-use Rattle.guest_words.specs.declared.limits.TheConstants.{CONTEXTS, TRACE_BYTES}
+use Rattle.guest_words.specs.declared.limits.TheConstants.{TRACE_BYTES}
 use Rattle.aprof_top.specs.declared.ending.Ending.{Ending}
 use Rattle.aprof_top.specs.declared.ending.Verdict.{Verdict}
 use Rattle.aprof_top.specs.Delivery.{StoreFails}
 use Rattle.aprof_top.specs.Private.Ending.{of_store}
 use Rattle.aprof_top.specs.Private.Jobs.{Desk, RunIsStored, desk}
-use Rattle.context_tree.specs.Contexts.{contexts}
-use Rattle.run_profile.specs.Contexts.{IsPastNumbers}
-use Rattle.aprof_top.specs.ContextReports.{can_be_numbered}
 use Rattle.aprof_top.specs.Outcome.{Left, Outcome, one_file, run_outcome}
 use Rattle.aprof_top.specs.Traces.{is_storable, named_entries}
 
 -- a trace that is stored, and one that is too long
 pub storable : (text : List ℕ) → length text ≤ TRACE_BYTES → is_storable text ≡ true
 storable text short = grind (arith, nat_tests, short)
-
-pub not_storable : (text : List ℕ) → TRACE_BYTES < length text → is_storable text ≡ false
-not_storable text long = grind (arith, nat_tests, long)
-
--- the text of a whole trace is no shorter than that of its events
-events_first : (past : List Event) (rest : List Record) → length (text_of (event_records past)) ≤ length (text_of (event_records past ++ rest))
-events_first past rest =
-    let events = flat_map record_bytes (event_records past) in
-    let more = flat_map record_bytes rest in
-    omega (
-      arith,
-      length-append magic events,
-      length-append magic (flat_map record_bytes (event_records past ++ rest)),
-      ap (λ (bytes : List ℕ). length bytes) (flat_map-append record_bytes (event_records past) rest),
-      length-append events more,
-    )
-
-pub whole_too_long : (past : List Event) (names : Names) (f : Finish) → IsTooLong past → TRACE_BYTES < length (trace_text past names f)
-whole_too_long past names f long = omega (arith, long, events_first past (name_records names ++ finish_records (Some f)))
 
 -- ---- the names rise
 above_one : (n e : ℕ) (o : Option (List ℕ)) (rest : Names) → n < e → All (λ (x : ℕ × List ℕ). n < x.0) rest
@@ -100,10 +73,3 @@ stored_left run left path bytes is old new result stored = subst (λ l. RunIsSto
 pub either_left : (b : Bool) (path text bytes : List ℕ) → b ≡ true → bytes ≡ text → (if b then Some (one_file path text) else None) ≡ Some (one_file path bytes)
 either_left b path text bytes fits is =
     ap (λ (b : Bool). if b then Some (one_file path text) else None) fits ∙ ap (λ (t : List ℕ). Some (one_file path t)) (sym is)
-
--- contexts that can be numbered, and those that can't
-pub few_contexts : (past : List Event) → length (contexts past) ≤ CONTEXTS → can_be_numbered past ≡ true
-few_contexts past few = grind (arith, nat_tests, few)
-
-pub many_contexts : (past : List Event) → IsPastNumbers past → can_be_numbered past ≡ false
-many_contexts past many = grind (arith, nat_tests, many)

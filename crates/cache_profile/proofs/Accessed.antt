@@ -21,9 +21,6 @@ pub record AreAccessed (old new : Held) (lines : List ℕ) (missing : ℕ) : Typ
   pub count : (earlier : List ℕ) → CacheStandsFor old earlier → missing ≡ count_missed old.shape earlier lines
   pub stands : (earlier : List ℕ) → CacheStandsFor old earlier → CacheStandsFor new (reverse lines ++ earlier)
 
-pub none_accessed : (cache : Held) → AreAccessed cache cache [] 0
-none_accessed cache = record { shape = refl; few = omega arith; count = λ earlier stands. refl; stands = λ earlier stands. stands }
-
 later : (x : ℕ) (lines earlier : List ℕ) → reverse (x ∷ lines) ++ earlier ≡ reverse lines ++ x ∷ earlier
 later x lines earlier = ap (λ ls. ls ++ earlier) (reverse-append (x ∷ []) lines) ∙ append_assoc (reverse lines) (x ∷ []) earlier
 

@@ -71,9 +71,6 @@ are_counted shape past tid first count cache entry accesses misses same stands w
 pub formed_next : (shape : Dimensions) (kept : KeptMisses) (past : List Event) (e : Event) → MissesStandFor shape kept past → MayCome kept e → IsWellFormed (e ∷ past)
 formed_next shape kept past e stands may = (allowed_by e (lives kept) kept.progress past stands.progress_is stands.calls.threads_live).0 may
 
-pub may_next : (shape : Dimensions) (kept : KeptMisses) (past : List Event) (e : Event) → MissesStandFor shape kept past → IsWellFormed (e ∷ past) → MayCome kept e
-may_next shape kept past e stands formed = (allowed_by e (lives kept) kept.progress past stands.progress_is stands.calls.threads_live).1 formed
-
 -- what follows the events of some past is of some past
 pub of_some : (shape : Dimensions) (old new : KeptMisses) (e : Event) → ∥ IsOfSome shape old ∥₁ → ((past : List Event) → MissesStandFor shape old past → MissesStandFor shape new (e ∷ past)) → ∥ IsOfSome shape new ∥₁
 of_some shape old new e of goes = ∥∥₁_map of (λ is. record { past = e ∷ is.past; now = goes is.past is.now })

@@ -21,10 +21,6 @@ before_self (x ∷ a) = ap (λ t. cond t (is_before a a) (nat_lt x x)) (eq-eqb x
 pub before_more : (a : List ℕ) (j : ℕ) (r : List ℕ) → is_before a (a ++ j ∷ r) ≡ true
 before_more a j r = ap (λ u. is_before u (a ++ j ∷ r)) (sym (append-nil a)) ∙ before_append a [] (j ∷ r)
 
-before_nothing : (a : List ℕ) → is_before a [] ≡ false
-before_nothing [] = refl
-before_nothing (x ∷ a) = refl
-
 -- the smaller of two first numbers
 pub before_less : (t j : ℕ) (a b : List ℕ) → t < j → is_before (t ∷ a) (j ∷ b) ≡ true
 before_less t j a b lt = grind (arith, nat_tests)
@@ -62,14 +58,6 @@ before_either (x ∷ a) (y ∷ b) = by (x == y) (y == x) (nat_lt x y) refl refl 
 pub record IsApart (k m : List ℕ) : Type 0 where
   pub free : Extends k m → ⊥
   pub same : (x : List ℕ) → is_before (k ++ x) m ≡ is_before k m
-
-first_or : List ℕ → ℕ
-first_or [] = 0
-first_or (x ∷ xs) = x
-
-rest_of : List ℕ → List ℕ
-rest_of [] = []
-rest_of (x ∷ xs) = xs
 
 pub extends_or : (k m : List ℕ) → Extends k m ⊎ IsApart k m
 extends_or [] m = inl (record { rest = m; is = refl })

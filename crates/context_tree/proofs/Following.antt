@@ -6,7 +6,7 @@ use Rattle.std.specs.Option.{option_map_or}
 use Rattle.std.proofs.lemmas.Bool.{eq-eqb}
 use Rattle.std.proofs.lemmas.Bool.Decides.{nat_tests}
 use Rattle.std.proofs.lemmas.List.{append-nil, drop-drop, drop_all, drop_min, get_or-map, get_or_append_left, length-drop, length-map, length-take, map-append, reverse-append}
-use Rattle.std.proofs.lemmas.List.Elements.{All-map, All-nil, All-push, All-same, All-weaker}
+use Rattle.std.proofs.lemmas.List.Elements.{All-map, All-push, All-same, All-weaker}
 use Rattle.guest_words.specs.ByThread.{numbers, value_of, with_value, without_thread}
 use Rattle.guest_words.proofs.ThreadTables.{All-numbers-without, numbers-with, value_of-above, value_of-pushed, value_of-with, value_of-without}
 use Rattle.trace_model.specs.declared.event_kinds.Event.{Event}
@@ -15,12 +15,12 @@ use Rattle.trace_model.specs.declared.activations.Activation.{Activation}
 use Rattle.trace_model.specs.declared.slow_profile.Done.{Done}
 use Rattle.trace_model.specs.Activations.{backs, count_ending, count_returned, open_calls}
 use Rattle.trace_model.specs.Profile.{done_of, ended}
-use Rattle.trace_model.specs.WellFormed.{IsLight, IsRunning, MayFollow, greatest_start, is_live}
+use Rattle.trace_model.specs.WellFormed.{IsLight, greatest_start, is_live}
 use Rattle.cost_points.specs.declared.point.Point.{Point}
 use Rattle.cost_points.specs.Keys.{grouped}
 use Rattle.guest_words.specs.declared.limits.TheConstants.{CONTEXTS}
 use Rattle.context_tree.specs.Contexts.{context_of, contexts, same, with_context}
-use Rattle.context_tree.specs.Links.{IsLinked, no_links}
+use Rattle.context_tree.specs.Links.{IsLinked}
 use Rattle.context_tree.specs.Numbers.{IsNumberOf, above_of, numbered}
 use Rattle.context_tree.specs.Numbers as by_number
 use Rattle.context_tree.specs.Points.{done_in_context, points_from, points_in, points_of}
@@ -28,8 +28,7 @@ use Rattle.context_tree.specs.Branches.{KeptBranches, BranchesStandFor, current_
 use Rattle.context_tree.specs.Private.Adding.{with_list}
 use Rattle.context_tree.specs.Private.Ways.{ArePoints, IsWay, tagged, up}
 use Rattle.context_tree.proofs.Known.{done_known, no_members}
-use Rattle.context_tree.proofs.Linking.{linked_none}
-use Rattle.context_tree.proofs.Numbering.{none_stand, not_none, same_front}
+use Rattle.context_tree.proofs.Numbering.{not_none, same_front}
 use Rattle.context_tree.proofs.Rooms.{rooms}
 
 -- ---- contexts of activations
@@ -274,11 +273,6 @@ module _ (old new : KeptBranches) (past : List Event) (tid n : ℕ) (lives : is_
   still_began =
       All-same (λ n. n ≤ greatest_start past) (numbers new.threads) (numbers old.threads) (ap numbers threads ∙ numbers-with old.threads tid n) stands.threads_began
 
-pub own-call : (old : KeptBranches) (past : List Event) (tid entry back : ℕ) → BranchesStandFor old past →
-    context_of (open_calls (Call tid entry back ∷ past) tid) ≡ numbered (contexts past) (current_of old tid) ++ entry ∷ []
-own-call old past tid entry back stands =
-    own_context old old past (Call tid entry back) tid 0 (record { at = length past; entry = entry; back = Some back }) stands (λ t. refl) refl (nothing_more past)
-
 pub stands-call : (old new : KeptBranches) (past : List Event) (tid entry back above n : ℕ) → above ≡ current_of old tid → is_some (value_of old.threads tid) ≡ true → new.threads ≡ with_value old.threads tid n → BranchesStandFor old past →
     HasBegun old new (contexts past) above entry n → BranchesStandFor new (Call tid entry back ∷ past)
 stands-call old new past tid entry back above n at lives threads stands there =
@@ -347,8 +341,6 @@ stands-end old new past tid ds threads are stands ends =
         ∙ drop_all (length (backs (open_calls past tid))) (open_calls past tid) (omega (arith, long))
 
 -- ---- what the calls of an event require
-pub light_before : (past : List Event) (e : Event) → IsLight (e ∷ past) → IsLight past
-light_before past e light = omega (arith, light)
 
 pub each_points : (kept : KeptBranches) (past : List Event) → BranchesStandFor kept past → IsLight past → All ArePoints kept.points
 each_points kept past stands light =
@@ -367,84 +359,6 @@ way_ended kept past tid count ds stands are =
     ap length are ∙ length-map (take count (open_calls past tid)) (done_of past tid) ∙ length-take count (open_calls past tid)
     in
     way_of kept.places (contexts past) stands.contexts_are (current_of kept tid) (length ds) (open_calls past tid) (stands.threads_in tid).within (stands.threads_in tid).there (omega (arith, long))
-
--- events that neither begin nor end an activation
-quiet_points : (past : List Event) → map (points_in past) (contexts past) ≡ map (points_of (done_in_context past ++ [])) (contexts past)
-quiet_points past = ap (λ all. map (points_of all) (contexts past)) (sym (nothing_more past))
-
-pub stands-step : (kept : KeptBranches) (past : List Event) (tid : ℕ) → BranchesStandFor kept past → BranchesStandFor kept (Step tid ∷ past)
-stands-step kept past tid stands = record {
-  contexts_are = stands.contexts_are;
-  few = stands.few;
-  points_are = stands.points_are ∙ quiet_points past;
-  links_are = stands.links_are;
-  threads_live = stands.threads_live;
-  threads_began = stands.threads_began;
-  threads_in = stands.threads_in;
-}
-
-abbrev pub is_quiet : Event → Bool
-is_quiet (Start _ _) = false
-is_quiet (Call _ _ _) = false
-is_quiet (Ret _ _) = false
-is_quiet (End _) = false
-is_quiet _ = true
-
-pub stands-quiet : (kept : KeptBranches) (past : List Event) (e : Event) → is_quiet e ≡ true → BranchesStandFor kept past → BranchesStandFor kept (e ∷ past)
-stands-quiet kept past (Step tid) is stands = stands-step kept past tid stands
-stands-quiet kept past (Read tid first count) is stands = record {
-  contexts_are = stands.contexts_are;
-  few = stands.few;
-  points_are = stands.points_are ∙ quiet_points past;
-  links_are = stands.links_are;
-  threads_live = stands.threads_live;
-  threads_began = stands.threads_began;
-  threads_in = stands.threads_in;
-}
-stands-quiet kept past (Write tid first count) is stands = record {
-  contexts_are = stands.contexts_are;
-  few = stands.few;
-  points_are = stands.points_are ∙ quiet_points past;
-  links_are = stands.links_are;
-  threads_live = stands.threads_live;
-  threads_began = stands.threads_began;
-  threads_in = stands.threads_in;
-}
-stands-quiet kept past (Fill first count) is stands = record {
-  contexts_are = stands.contexts_are;
-  few = stands.few;
-  points_are = stands.points_are ∙ quiet_points past;
-  links_are = stands.links_are;
-  threads_live = stands.threads_live;
-  threads_began = stands.threads_began;
-  threads_in = stands.threads_in;
-}
-stands-quiet kept past (Start tid entry) is stands = absurd (cc)
-stands-quiet kept past _ is stands = absurd (cc)
-
--- a thread that starts has a number above all
-pub above_all : (kept : KeptBranches) (past : List Event) (tid entry : ℕ) → MayFollow (Start tid entry) past → BranchesStandFor kept past → All (λ n. n < tid) (numbers kept.threads)
-above_all kept past tid entry may stands =
-    All-weaker (λ n. n ≤ greatest_start past) (λ n. n < tid) (λ n low. omega (arith, low, may)) (numbers kept.threads) stands.threads_began
-
--- a thread that runs is kept
-pub running_kept : (kept : KeptBranches) (past : List Event) (tid : ℕ) → IsRunning past tid → BranchesStandFor kept past → is_some (value_of kept.threads tid) ≡ true
-running_kept kept past tid running stands = stands.threads_live tid ∙ running.0
-
--- at first
-pub stands-none : (kept : KeptBranches) → kept.places ≡ [] → kept.points ≡ [] → kept.links ≡ no_links ∷ [] → kept.threads ≡ [] → BranchesStandFor kept []
-stands-none kept places points links threads = record {
-  links_are = subst (λ ps. IsLinked ps kept.links) (sym places) (subst (λ ls. IsLinked [] ls) (sym links) linked_none);
-  contexts_are = subst (λ ps. by_number.NumbersStandFor ps []) (sym places) none_stand;
-  few = omega arith;
-  points_are = points;
-  threads_live = λ t. ap (λ (xs : List (ℕ × ℕ)). is_some (value_of xs t)) threads;
-  threads_began = subst (λ (xs : List (ℕ × ℕ)). All (λ n. n ≤ 0) (numbers xs)) (sym threads) (All-nil (λ n. n ≤ 0));
-  threads_in = λ t. record { within = omega (arith, current t); there = ap (numbered []) (current t) };
-}
-  where
-    current : (t : ℕ) → current_of kept t ≡ 0
-    current t = ap (λ (xs : List (ℕ × ℕ)). number_or_none (value_of xs t)) threads
 
 pub ok_of : {T E : Type 0} (r : Result T E) (P : Type 0) → IsOk r → OnOk r P → P
 ok_of (Ok x) P ok p = p

@@ -29,9 +29,6 @@ light_of (e ∷ past) formed = formed.1
 pub formed_next : (kept : KeptTree) (past : List Event) (e : Event) → TreeStandsFor kept past → MayCome kept e → IsWellFormed (e ∷ past)
 formed_next kept past e stands may = (allowed_by e (lives kept) kept.progress past stands.progress_is stands.branches_are.threads_live).0 may
 
-pub may_next : (kept : KeptTree) (past : List Event) (e : Event) → TreeStandsFor kept past → IsWellFormed (e ∷ past) → MayCome kept e
-may_next kept past e stands formed = (allowed_by e (lives kept) kept.progress past stands.progress_is stands.branches_are.threads_live).1 formed
-
 -- ---- what its contexts have
 pub whole : (kept : KeptTree) → ∥ IsOfSome kept ∥₁ → IsWhole kept.branches
 whole kept some = ∥∥₁_elim some (whole_once kept.branches) (λ of. record {
@@ -94,12 +91,3 @@ module _ (old new : KeptTree) (ends : List Done) (some : ∥ IsOfSome old ∥₁
   goes_on (Fill first count) are goes = ∥∥₁_map some (λ of. record { past = Fill first count ∷ of.past; now = goes of.past of.now are })
 
 -- ---- who kept a past with a tree knows what ended
-pub are_ended : (kept : KeptTree) (past : List Event) (e : Event) (ends : List Done) → TreeStandsFor kept past → ends ≡ ended e past → AreEnded kept e ends
-are_ended kept past (Ret tid target) ends stands are = ∣ record { past = past; now = stands; ends_are = are } ∣₁
-are_ended kept past (End tid) ends stands are = ∣ record { past = past; now = stands; ends_are = are } ∣₁
-are_ended kept past (Start tid entry) ends stands are = are
-are_ended kept past (Call tid entry back) ends stands are = are
-are_ended kept past (Step tid) ends stands are = are
-are_ended kept past (Read tid first count) ends stands are = are
-are_ended kept past (Write tid first count) ends stands are = are
-are_ended kept past (Fill first count) ends stands are = are

@@ -271,26 +271,6 @@ module _ (places : List (ℕ × ℕ)) (p entry : ℕ) (p_in : p ≤ length place
         ap (λ (x : Links). x.depth) fresh_at ∙ ap (λ m. m + 1) (sym (grows.depths p (in_links p p_in))) ∙ ap (λ q. (links_at new q).depth + 1) (sym (above_new places p entry p_in linked.falls))) n le some;
   }
 
--- at first
-pub linked_none : IsLinked [] (no_links ∷ [])
-linked_none = record {
-  long = refl;
-  falls = λ n some le. absurd (omega (arith, some, le));
-  first = firsts;
-  last = lasts;
-  next = λ n some le. absurd (omega (arith, some, le));
-  none = refl;
-  depth = λ n some le. absurd (omega (arith, some, le));
-}
-  where
-    firsts : (n : ℕ) → n ≤ 0 → IsNextUnder [] n 0 (links_at (no_links ∷ []) n).first_child
-    firsts zero le = λ t low within same. absurd (omega (arith, low, within))
-    firsts (suc n) le = absurd (omega (arith, le))
-
-    lasts : (n : ℕ) → n ≤ 0 → IsLastUnder [] n (links_at (no_links ∷ []) n).last_child
-    lasts zero le = λ t low within same. absurd (omega (arith, low, within))
-    lasts (suc n) le = absurd (omega (arith, le))
-
 -- the change as the code makes it
 abbrev bare : ℕ → Links
 bare depth = record { first_child = None; last_child = None; next_sibling = None; depth = depth }

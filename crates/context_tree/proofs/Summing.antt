@@ -41,12 +41,6 @@ use Rattle.context_tree.proofs.Rooms.{all_done, of_members}
 abbrev size_of : Done → ℕ
 size_of d = d.size
 
-abbrev of_size : List Done → ℕ → List Done
-of_size ms k = having size_of k ms
-
-abbrev pub sizes_of : List Done → List ℕ
-sizes_of ms = rising (map (λ d. d.size) ms)
-
 any_own : (x : ℕ) (ks : List ℕ) → list_any (λ k. x == k) (insert_rising x ks) ≡ true
 any_own x [] = grind (arith, nat_tests)
 any_own x (y ∷ ks) = elim (order x y) [

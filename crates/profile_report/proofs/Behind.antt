@@ -30,10 +30,6 @@ pub record Behind (text : List ℕ) (number : ℕ) (state : ParseState) (rest : 
   pub lead : led AtVersion lines ≡ Some state
   pub follow : (all : List Line) → AllByRecursion FitsLine all → text ≡ lines_text all → (more : List Line) × (all ≡ lines ++ more) × (rest ≡ lines_text more)
 
--- at first nothing is read
-pub behind_none : (text : List ℕ) → Behind text 1 AtVersion text
-behind_none text = record { lines = []; fit = tt; many = refl; whole = refl; lead = refl; follow = λ all fit is. (all, refl, is) }
-
 fit_later : (xs ys : List Line) → AllByRecursion FitsLine (xs ++ ys) → AllByRecursion FitsLine ys
 fit_later [] ys h = h
 fit_later (x ∷ xs) ys h = fit_later xs ys h.1
