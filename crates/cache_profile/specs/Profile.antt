@@ -2,7 +2,7 @@
 use Rattle.std.specs.Prelude.{◌≡◌, ℕ, Bool, true, false, List, is_some}
 use Rattle.guest_words.specs.ByThread.{value_of}
 use Rattle.trace_model.specs.declared.event_kinds.Event.{Event}
-use Rattle.trace_model.specs.declared.event_kinds.Event.TheVariants.{Fill, Step}
+use Rattle.trace_model.specs.declared.event_kinds.Event.TheVariants.{Step, Fill, Ret, End}
 use Rattle.trace_model.specs.Profile.{steps}
 use Rattle.trace_order.specs.Progress.{IsAllowed, IsProgressOf, ProgressState, is_of_one}
 use Rattle.call_tracker.specs.CallStacks.{Stacks}
@@ -32,11 +32,13 @@ pub record MissesStandFor (shape : Dimensions) (kept : KeptMisses) (past : List 
   pub steps_are : kept.steps ≡ steps past
   pub progress_is : IsProgressOf kept.progress past
 
--- the event is a step or a fill
-abbrev pub is_step_or_fill : Event → Bool
-is_step_or_fill (Step _) = true
-is_step_or_fill (Fill _ _) = true
-is_step_or_fill _ = false
+-- the event accesses no word for a thread, and begins no activation
+abbrev pub is_quiet : Event → Bool
+is_quiet (Step _) = true
+is_quiet (Fill _ _) = true
+is_quiet (Ret _ _) = true
+is_quiet (End _) = true
+is_quiet _ = false
 
 -- the thread is one of those whose calls are kept
 abbrev pub lives : KeptMisses → ℕ → Bool

@@ -10,7 +10,7 @@ ghost use Rattle.trace_order.specs.Progress.{is_of_one};
 ghost use Rattle.call_tracker.specs.CallStacks.{StacksStandFor as CallsOf};
 ghost use Rattle.cache_profile.specs.ByRoutine.{innermost};
 ghost use Rattle.cache_profile.specs.Private.Other.{IsOther};
-ghost use Rattle.cache_profile.specs.Profile.{MayCome, MissesStandFor, is_step_or_fill, lives};
+ghost use Rattle.cache_profile.specs.Profile.{MayCome, MissesStandFor, is_quiet, lives};
 
 use crate::RoutineMisses;
 use crate::lines::access_words;
@@ -207,12 +207,12 @@ impl<K: Shaped> Observer for CacheProfile<K> {
 
     ghost steps_fit = { λ profile tid past fits. refl };
 
-    // It takes every event that may come next. Steps and fills need no memory.
+    // It takes every event that may come next. What accesses no word for a thread and begins no activation needs no memory.
     fn observe(&mut self, e: Event) -> Result<Observed, AllocError>
         requires { MayCome self.old e }
         ensures observed { IfOk result (Observes (MissesStandFor K.shape) (λ past. true) e self.old self.new) }
         ensures refused { OnErr result (StandsAsBefore (MissesStandFor K.shape) self.old self.new) }
-        ensures no_allocation { is_step_or_fill e ≡ true → IsOk result }
+        ensures no_allocation { is_quiet e ≡ true → IsOk result }
     {
         match e {
             Event::Read { tid, first, count } => self.access(&e, tid, first, count)?,
