@@ -16,17 +16,6 @@ use Rattle.shadow_core.proofs.StateTicks.{ticks_by_parts}
 pub as_large : (s : Stamped) → IsAsLarge s s
 as_large s = record { spare = refl; frames = refl; covered = λ w. refl; calls = refl }
 
--- without a tick
-pub stays : (most : ℕ) (old : Clock) → old.counter ≤ most → IsAdvanced most false old old
-stays most old within = record {
-  table = λ s. refl;
-  same = refl;
-  each = λ t was here. (was, here, as_large was);
-  marks = refl;
-  covered = λ w. refl;
-  within = within;
-}
-
 -- the clock after a tick
 abbrev pub clock_after : ℕ → Clock → Live → List Page → Clock
 clock_after most old live writes =

@@ -134,10 +134,6 @@ few_returned target bs = by (position_or_len (is_back target) bs) (length bs)
     by : (k n : ℕ) → cond (nat_lt k n) (k + 1) 0 ≤ n
     by k n = grind (arith, nat_tests)
 
--- a return ends at most all calls
-pub few_ended : (target : ℕ) (k : Calls) → returned_by target k ≤ length k.list
-few_ended target k = omega (arith, few_returned target (map (λ (o : CountedCall). o.back) k.list), length-map k.list (λ (o : CountedCall). o.back))
-
 -- as many are recorded as a return ends calls
 pub returned_fits : (most t target held capacity : ℕ) (e : Event) (s : State) → e ≡ Ret t target → MayTake (StandsFor most) s e → DoesNotAllocate e (table_of_state s) held capacity →
     held + count_returned target (map (λ (o : CountedCall). o.back) (calls_of s.live.threads t).list) ≤ capacity

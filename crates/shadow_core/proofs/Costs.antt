@@ -16,9 +16,6 @@ use Rattle.shadow_core.specs.Private.Reading.{IsRead, IsReadWithin}
 use Rattle.shadow_core.proofs.Reading.{length_read, not_before, range_append, starts_read}
 
 -- ---- more steps
-pub within_steps : (p q : ℕ) (old : Live) (t first n a b : ℕ) → p ≤ q → IsReadWithin p old t first n a b → IsReadWithin q old t first n a b
-within_steps p q old t first n a b le h = λ digits low. let most = h digits low in omega (arith, most, le)
-
 -- some were counted before
 pub within_before : (k p q : ℕ) (old : Live) (t first n a m b : ℕ) → m ≡ a + k → k + p ≤ q → IsReadWithin p old t first n m b → IsReadWithin q old t first n a b
 within_before k p q old t first n a m b is le h = λ digits low. let most = h digits low in omega (arith, most, is, le)

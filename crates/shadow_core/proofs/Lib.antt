@@ -21,5 +21,6 @@ pub mod Stepped
 pub mod Popped
 pub mod Ended
 pub mod SamePages
+pub mod Settled
 pub mod After
 pub mod Costs

@@ -155,23 +155,8 @@ stepped most t b s live new may is step counted =
     let a = alive_for_step most t s may in
     step_made most t s a.was live new a.has (subst (λ (b : Bool). IsAdvanced most b (clock_of s) new) is step) counted
 
--- no tick changes nothing
-not_advanced : (most : ℕ) (clock : Clock) → clock.counter ≤ most → IsAdvanced most false clock clock
-not_advanced most clock within = record {
-  table = λ s. refl;
-  same = refl;
-  each = λ t was here. (was, here, record { spare = refl; frames = refl; covered = λ w. refl; calls = refl });
-  marks = refl;
-  covered = λ w. refl;
-  within = within;
-}
-
 pub no_switch : (t : ℕ) → is_switch (Some t) t ≡ false
 no_switch t = grind (arith, nat_tests)
-
--- no tick, where there was none
-pub stands_still : (most t : ℕ) (s : State) → MayTake (StandsFor most) s (Step t) → IsAdvanced most false (clock_of s) (clock_of s)
-stands_still most t s may = not_advanced most (clock_of s) (may_advance most (Step t) s may).within
 
 -- a tick may come, by the fields that the code has
 pub advance_here : (most : ℕ) (e : Event) (s now : State) → s ≡ now → MayTake (StandsFor most) now e → MayAdvance most e s

@@ -175,7 +175,7 @@ module _ (most t first count : ℕ) (s now : State) (more : Live) (is : s ≡ no
 
 -- ---- no event
 pub nothing_told : (writes marks : List Page) (live : Live) → writes ≡ [] → marks ≡ [] → live.threads ≡ [] →
-    table_of_state (record { counter = 0; writes = writes; marks = marks; live = live; last = None; greatest = 0; weight = 0; renumbered = 0 }) ≡ empty_table
+    table_of_state (record { counter = 0; writes = writes; marks = marks; live = live; last = None; greatest = 0; weight = 0; renumbered = 0; settled = 0 }) ≡ empty_table
 nothing_told writes marks live unwritten unmarked none =
     (λ i. table_of_state (record {
       counter = 0;
@@ -186,5 +186,6 @@ nothing_told writes marks live unwritten unmarked none =
       greatest = 0;
       weight = 0;
       renumbered = 0;
+      settled = 0;
     }))
     ∙ empty_is_told (record live { threads = [] }) refl

@@ -97,33 +97,6 @@ module _ (old new : Live) (t : ℕ) (frames : List Frame) (pages : List Page) (l
   }
 
 -- ---- frames
-added_within : (most k : ℕ) (by : Sums) (fs : List Frame) → AreWithin most fs → AreSmall by → AreWithin (most + 1) (added k by fs)
-added_within most k by [] within small = All-nil (SumsWithin (most + 1))
-added_within most zero by (f ∷ fs) within small =
-    let here = All-head (SumsWithin most) f fs within in
-    All-cons (SumsWithin (most + 1)) (record f { sums = plus f.sums by }) fs
-    ((omega (arith, ints, here.0, small.0), omega (arith, ints, here.0, small.0)), (omega (arith, ints, here.1, small.1), omega (arith, ints, here.1, small.1)))
-    (wider most fs (All-tail (SumsWithin most) f fs within))
-  where
-    wider : (most : ℕ) (fs : List Frame) → AreWithin most fs → AreWithin (most + 1) fs
-    wider most fs within = λ k d lt. let h = within k d lt in ((omega (arith, ints, h.0), omega (arith, ints, h.0)), (omega (arith, ints, h.1), omega (arith, ints, h.1)))
-added_within most (suc k) by (f ∷ fs) within small =
-    let here = All-head (SumsWithin most) f fs within in
-    All-cons (SumsWithin (most + 1)) f (added k by fs)
-    ((omega (arith, ints, here.0), omega (arith, ints, here.0)), (omega (arith, ints, here.1), omega (arith, ints, here.1)))
-    (added_within most k by fs (All-tail (SumsWithin most) f fs within) small)
-
-pub taken_within : (most : ℕ) (by : Sums) (place : Option ℕ) (fs : List Frame) → AreWithin most fs → AreSmall (negated by) → AreWithin (most + 1) (taken by place fs)
-taken_within most by None fs within small = λ k d lt. let h = within k d lt in ((omega (arith, ints, h.0), omega (arith, ints, h.0)), (omega (arith, ints, h.1), omega (arith, ints, h.1)))
-taken_within most by (Some k) fs within small = added_within most k (negated by) fs within small
-
-pub small_back : (by : Sums) → AreSmall by → AreSmall (negated by)
-small_back by small = ((omega (arith, ints, small.0), omega (arith, ints, small.0)), (omega (arith, ints, small.1), omega (arith, ints, small.1)))
-
-pub length_taken : (by : Sums) (place : Option ℕ) (fs : List Frame) → length (taken by place fs) ≡ length fs
-length_taken by None fs = refl
-length_taken by (Some k) fs = length_changed k (negated by) fs
-
 -- what was taken and given back changes nothing
 given_back : (k : ℕ) (by : Sums) (fs : List Frame) → added k by (added k (negated by) fs) ≡ fs
 given_back k by [] = refl

@@ -8,7 +8,7 @@ use Rattle.shadow_stack.specs.declared.sums.Sums.{Sums}
 use Rattle.shadow_stack.specs.Frames.{Frame, IsLastAtMost, added, added_to_last, plus, starts_of}
 use Rattle.shadow_stack.proofs.Places.{last_added, length_changed}
 use Rattle.stamp_table.specs.Frames.{added_to_top, negated, taken_at, gain, frames_after_read, pop, popped, frames_after_pops}
-use Rattle.shadow_core.specs.Private.Parts.{PushesInFront, taken, TakesWhereFound, AddsToTheTop, AddsAtTheLast, ReadsWhereFound, PopsTheTop, PopsInOrder, PopsGoOn, ReadsGoOn, ReadsOneMore, CountsGoOn}
+use Rattle.shadow_core.specs.Private.Parts.{PushesInFront, taken, TakesWhereFound, AddsToTheTop, AddsAtTheLast, ReadsWhereFound, PopsTheTop, PopsInOrder, ReadsGoOn, CountsGoOn}
 
 pub pushes_in_front : PushesInFront
 pushes_in_front fs f = reverse-append fs (f ∷ [])
@@ -108,32 +108,10 @@ pops_in_order fs gs (s ∷ sums) (rest, first, more) =
       ap (frames_after_pops (length sums)) one.1 ∙ later.1,
     )
 
-pops-suc : (n : ℕ) (frames : List Frame) → frames_after_pops (suc n) frames ≡ pop (frames_after_pops n frames)
-pops-suc zero frames = refl
-pops-suc (suc n) frames = pops-suc n (pop frames)
-
-none_popped : (n : ℕ) → frames_after_pops n [] ≡ []
-none_popped zero = refl
-none_popped (suc n) = none_popped n
-
-popped-suc : (n : ℕ) (frames : List Frame) → popped (suc n) frames ≡ popped n frames ++ popped 1 (frames_after_pops n frames)
-popped-suc zero frames = refl
-popped-suc (suc n) [] = ap (popped 1) (sym (none_popped n))
-popped-suc (suc n) (f ∷ frames) = ap (λ (sums : List Sums). f.sums ∷ sums) (popped-suc n (pop (f ∷ frames)))
-
-pub pops_go_on : PopsGoOn
-pops_go_on n frames = (
-  ap (λ m. popped m frames) (add-one n) ∙ popped-suc n frames,
-  ap (λ m. frames_after_pops m frames) (add-one n) ∙ pops-suc n frames,
-)
-
 -- ---- reads
 pub reads_go_on : ReadsGoOn
 reads_go_on [] qs frames = refl
 reads_go_on (p ∷ ps) qs frames = reads_go_on ps qs (frames_after_read p frames)
-
-pub reads_one_more : ReadsOneMore
-reads_one_more ps p frames = reads_go_on ps (p ∷ []) frames
 
 pub counts_go_on : CountsGoOn
 counts_go_on test ps qs = sum_by-append (λ p. cond (test p) 1 0) ps qs

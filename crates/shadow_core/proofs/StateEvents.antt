@@ -8,16 +8,10 @@ use Rattle.stamp_renumber.specs.Threads.{Stamped}
 use Rattle.stamp_table.specs.Table.{event_after}
 use Rattle.stamp_table.specs.Renewal.{bounded_tick}
 use Rattle.shadow_core.specs.State.{table_of_state}
-use Rattle.shadow_core.specs.Private.StateEvents.{StampsAreTold, TickIsMade, NoTickIsMade, EventIsMade, ThreadsStay, StampedIsThere, LastChangeCounts}
+use Rattle.shadow_core.specs.Private.StateEvents.{NoTickIsMade, EventIsMade, StampedIsThere, LastChangeCounts}
 use Rattle.shadow_core.proofs.StateRows.{weighs_by_parts}
 use Rattle.shadow_core.proofs.StateThreads.{own_test}
 use Rattle.shadow_core.proofs.StateTold.{frames_are_told}
-
-pub stamps_are_told : StampsAreTold
-stamps_are_told most e s = ap (λ n. eqb (count_begun e) 0 || leb (3 * (n + 2)) most) (frames_are_told s)
-
-pub tick_is_made : TickIsMade
-tick_is_made most e s now asked made = made ∙ sym (ap (λ b. cond b (bounded_tick most (table_of_state s)) (table_of_state s)) asked)
 
 pub no_tick_is_made : NoTickIsMade
 no_tick_is_made most e s asked = sym (ap (λ b. cond b (bounded_tick most (table_of_state s)) (table_of_state s)) asked)
@@ -39,11 +33,6 @@ still_there (x ∷ old) (y ∷ new) same t was here =
         (is : Stamped) × (cond b (Some y.1) (value_of new t) ≡ Some is)
     by true here later = (y.1, refl)
     by false here later = later here
-
-pub threads_stay : ThreadsStay
-threads_stay s live writes t was all h =
-    let found = still_there s.live.threads live.threads all.same t was h.stamps in
-    (found.0, record { rising = subst IsRising (sym all.same) h.rising; stamps = found.1 }, (all.each t was found.0 h.stamps found.1).calls)
 
 pub stamped_value : (live : List (ℕ × Stamped)) (t : ℕ) (was is : Stamped) → value_of live t ≡ Some was → value_of (with_value live t is) t ≡ Some is
 stamped_value live t was is found = value_of-with live t is was found t ∙ own_test t (Some is) (value_of live t)

@@ -18,10 +18,7 @@ use Rattle.stamp_renumber.specs.declared.ticks.Ticked.{Ticked}
 use Rattle.stamp_table.specs.Table.{Thread}
 use Rattle.stamp_table.specs.Renewal.{all_starts, renewed_thread, renewed, plain_tick}
 use Rattle.shadow_core.specs.State.{State, as_thread, as_threads, table_of_state}
-use Rattle.shadow_core.specs.Private.StateTicks.{CountsPlainly, RenewsAll, TicksByParts}
-
-pub counts_plainly : CountsPlainly
-counts_plainly s = refl
+use Rattle.shadow_core.specs.Private.StateTicks.{RenewsAll, TicksByParts}
 
 -- ---- the starts of all frames, in two orders
 pub map-reverse : {A B : Type 0} (f : A → B) (xs : List A) → reverse (map f xs) ≡ map f (reverse xs)

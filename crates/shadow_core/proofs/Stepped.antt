@@ -63,7 +63,7 @@ more_steps n thread = record thread { counts = record thread.counts { steps = th
 abbrev pub made : ℕ → ℕ → Table → Table
 made t n table = record table { threads = changed t (more_steps n) table.threads; last = Some t; weight = table.weight + n }
 
-one_made : (tick : Table → Table) (t : ℕ) (table : Table) → table.last ≡ Some t → table_after tick (Step t) table ≡ made t 1 table
+pub one_made : (tick : Table → Table) (t : ℕ) (table : Table) → table.last ≡ Some t → table_after tick (Step t) table ≡ made t 1 table
 one_made tick t table runs =
     ap (λ (b : Bool). event_after (Step t) (cond b (tick table) table)) (ap (λ last. is_switch last t) runs ∙ no_switch t)
 
@@ -117,9 +117,6 @@ module _ (most t count : ℕ) (table : Table) (own : List Event) (stood : Stands
 pub may_step_once : (most t n : ℕ) (s : State) → MayStepBy (StandsFor most) (is_within most) s t n → 1 ≤ n → MayTake (StandsFor most) s (Step t)
 may_step_once most t n s may some = record { past = may.past; now = may.now; formed = steps_formed t n 0 may.past some may.formed }
 
-pub may_step_by_one : (most t : ℕ) (s : State) → MayTake (StandsFor most) s (Step t) → MayStepBy (StandsFor most) (is_within most) s t 1
-may_step_by_one most t s may = record { past = may.past; now = may.now; fitting = may.now.within; formed = may.formed }
-
 heavier : (t n : ℕ) (past : List Event) → weight (with_steps t n past) ≡ weight past + n
 heavier t zero past = omega arith
 heavier t (suc n) past = omega (arith, heavier t n past)
@@ -171,9 +168,6 @@ may_step_on most t n s new may is =
       fitting = stands.within;
       formed = subst IsWellFormed (sym (past_turn t n may.past)) may.formed;
     }
-
-pub runs_then : (most t : ℕ) (s new : State) → table_of_state new ≡ table_after (bounded_tick most) (Step t) (table_of_state s) → new.last ≡ Some t
-runs_then most t s new is = ap (λ (k : Table). k.last) is
 
 pub turned_steps : (most t n : ℕ) (s new last : State) → table_of_state new ≡ table_after (bounded_tick most) (Step t) (table_of_state s) →
     table_of_state last ≡ table_after_steps (bounded_tick most) t n (table_of_state new) →

@@ -1,9 +1,9 @@
 -- What the fields of a profiler keep to, and what a tick leaves of them.
-use Rattle.std.specs.Prelude.{◌≡◌, ℕ, ◌≤◌, Bool, true, if◌then◌else◌, List, length, Some}
+use Rattle.std.specs.Prelude.{◌≡◌, ℕ, ◌≤◌, Bool, true, if◌then◌else◌, List, length, Some, is_some}
 use Rattle.guest_words.specs.ByThread.{numbers, value_of}
 use Rattle.trace_model.specs.declared.event_kinds.Event.{Event}
-use Rattle.shadow_pages.specs.Pages.{Page, covers}
-use Rattle.stamp_renumber.specs.Threads.{Live, Stamped}
+use Rattle.shadow_pages.specs.Pages.{Page, covers, stamp_at}
+use Rattle.stamp_renumber.specs.Threads.{Live, Stamped, pages_of}
 use Rattle.stamp_table.specs.Renewal.{bounded_tick}
 use Rattle.stamp_table.specs.Stands.{Stands}
 use Rattle.shadow_core.specs.State.{State, table_of_state}
@@ -12,9 +12,11 @@ use Rattle.shadow_core.specs.State.{State, table_of_state}
 abbrev pub StandsFor : ℕ → State → List Event → Type 0
 StandsFor most s past = Stands most (table_of_state s) past
 
--- Each word that has a write stamp has a mark.
+-- Each word that has a write stamp has a mark. What the running thread accessed at `settled` or later, no one else wrote since.
 pub record IsWhole (s : State) : Type 0 where
   pub marked : (w : ℕ) → covers s.writes w ≡ true → covers s.marks w ≡ true
+  pub settled : (t : ℕ) → s.last ≡ Some t → is_some (value_of s.live.threads t) ≡ true → (w : ℕ)
+      → s.settled ≤ stamp_at (pages_of s.live.threads t) w → stamp_at s.writes w ≤ stamp_at (pages_of s.live.threads t) w
 
 -- What a tick changes.
 pub record Clock : Type 0 where

@@ -16,6 +16,8 @@ pub record State : Type 0 where
   pub greatest : ℕ
   pub weight : ℕ
   pub renumbered : ℕ
+  -- where the running thread's access to a word has this stamp or a greater one, no one else wrote the word since
+  pub settled : ℕ
 
 -- a thread as the table has it: the innermost frame first
 abbrev pub as_thread : Stamped → Thread

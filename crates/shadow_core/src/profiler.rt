@@ -1,5 +1,5 @@
 //! The online profiler.
-ghost use Rattle.std.specs.Prelude.{◌≡◌, ◌==◌, ◌≤◌, ◌<◌, ◌+◌, ◌*◌, ◌++◌, ◌∷◌, [], List, Some, map, nat_lt, true, false, vec_len, Err, IfErr, IfNone, IfOk, IfSome, IsOk, OnErr, OnOk, length};
+ghost use Rattle.std.specs.Prelude.{◌≡◌, ◌==◌, ◌≤◌, ◌<◌, ◌+◌, ◌*◌, ◌++◌, ◌∷◌, [], ℕ, List, Some, map, nat_lt, true, false, vec_len, Err, IfErr, IfNone, IfOk, IfSome, IsOk, OnErr, OnOk, length};
 ghost use Rattle.trace_model.specs.declared.event_kinds.Event.{Event};
 ghost use Rattle.trace_model.specs.declared.event_kinds.Event.TheVariants.{Call, End, Fill, Read, Ret, Start, Step, Write};
 ghost use Rattle.std.specs.Vec.{vec_capacity};
@@ -59,6 +59,8 @@ pub struct Profiler<S: Lanes> {
     greatest: u32,
     weight: u64,
     renumbered: u64,
+    // Where the running thread's access to a word has this stamp or a greater one, no one else wrote the word since.
+    settled: u32,
     zeros: ZeroRows<S>,
 }
 
@@ -77,6 +79,7 @@ impl<S: Lanes> Model for Profiler<S> {
       greatest = p.greatest;
       weight = p.weight;
       renumbered = p.renumbered;
+      settled = p.settled;
     } };
 
     ghost invariant = { λ p. IsWhole (record {
@@ -88,6 +91,7 @@ impl<S: Lanes> Model for Profiler<S> {
       greatest = p.greatest;
       weight = p.weight;
       renumbered = p.renumbered;
+      settled = p.settled;
     }) };
 }
 
@@ -106,6 +110,7 @@ impl<S: Lanes> Profiler<S> {
             greatest: 0,
             weight: 0,
             renumbered: 0,
+            settled: 0,
             zeros: ZeroRows::new(alloc)?,
         })
     }
@@ -349,6 +354,7 @@ impl<S: Lanes> Profiler<S> {
             steps,
         );
         self.threads.add_steps(tid, 1);
+        self.settled = self.counter;
         self.last = Some(tid);
         self.weight += 1;
     }
@@ -398,6 +404,7 @@ impl<S: Lanes> Profiler<S> {
         );
         let now = S::from_number(self.counter);
         fill(&mut self.writes, &mut self.marks, first, count, now);
+        self.settled = self.counter;
         self.weight += 1;
         Ok(())
     }
@@ -451,17 +458,17 @@ impl<S: Lanes> Profiler<S> {
         if access.stamp.number() == self.counter && is_latest(latest, self.counter) {
             self.weight += 1;
         } else {
-            self.write_old(tid, w, access, latest);
+            self.write_old(tid, w, access.place, latest.place);
         }
     }
 
     // The same, where a stamp or the mark may change.
     #[inline(never)]
-    fn write_old(&mut self, tid: Tid, w: Word, access: Access<S>, latest: Latest<S>)
+    fn write_old(&mut self, tid: Tid, w: Word, own: usize, place: usize)
         requires may { MayTake (StandsFor S.MAX) self.old (Write tid w 1) }
-        requires place { HasPlace (pages_of self.old.live.threads tid) w access.place }
-        requires written { HasPlace self.old.writes w latest.place }
-        requires marked { HasPlace self.old.marks w latest.place }
+        requires own { HasPlace (pages_of self.old.live.threads tid) w own }
+        requires written { HasPlace self.old.writes w place }
+        requires marked { HasPlace self.old.marks w place }
         ensures table { table_of_state self.new
             ≡ table_after (bounded_tick S.MAX) (Write tid w 1) (table_of_state self.old) }
         ensures pages { HasSamePages self.old self.new }
@@ -470,10 +477,10 @@ impl<S: Lanes> Profiler<S> {
         write_at(
             &mut self.threads,
             tid,
-            access.place,
+            own,
             &mut self.writes,
             &mut self.marks,
-            latest,
+            place,
             w,
             now,
         );
@@ -546,6 +553,7 @@ impl<S: Lanes> Profiler<S> {
         );
         let now = S::from_number(self.counter);
         self.threads.begin(tid, now, entry, None);
+        self.settled = self.counter;
         self.greatest = tid.number();
         self.weight += 1;
         Ok(())
@@ -605,6 +613,7 @@ impl<S: Lanes> Profiler<S> {
         );
         let now = S::from_number(self.counter);
         self.threads.begin(tid, now, entry, Some(back));
+        self.settled = self.counter;
         self.weight += 1;
         Ok(())
     }
@@ -671,10 +680,10 @@ impl<S: Lanes> Profiler<S> {
         }
     }
 
-    /// Takes a return of the thread that runs, where it ends one activation, and says what is recorded of that. Where it ends none
-    /// or several, nothing changes. It does not allocate.
+    // Takes a return of the thread that runs, where it ends one activation, and says what is recorded of that. Where it ends none
+    // or several, nothing changes. It does not allocate.
     #[inline(always)]
-    pub fn return_one(&mut self, tid: Tid, target: Addr) -> Option<Done>
+    fn return_one(&mut self, tid: Tid, target: Addr) -> Option<Done>
         requires { MayTake (StandsFor S.MAX) self.old (Ret tid target) }
         ensures table { IfSome result (λ ended. table_of_state self.new
             ≡ table_after (bounded_tick S.MAX) (Ret tid target) (table_of_state self.old)) }
@@ -804,6 +813,8 @@ impl<S: Lanes> Profiler<S> {
     {
         if access.stamp.number() == self.counter {
             self.weight += 2;
+        } else if access.stamp.number() >= self.settled {
+            self.read_own(tid, w, access, steps);
         } else {
             self.read_old(tid, w, access, steps);
         }
@@ -826,7 +837,8 @@ impl<S: Lanes> Profiler<S> {
         self.read_known(tid, w, access, &mut steps);
     }
 
-    // The same, where the counter has moved.
+    // The same, where the counter has moved, and another thread or the kernel may have written the word since.
+    #[cold]
     #[inline(never)]
     fn read_old<L: Ledger>(&mut self, tid: Tid, w: Word, access: Access<S>, steps: &mut Steps<L>)
         requires may { MayTake (StandsFor S.MAX) self.old (Read tid w 1) }
@@ -1004,6 +1016,7 @@ impl<S: Lanes> Profiler<S> {
             → OnOk result (IsTaken S.MAX e past self.new done.old.items done.new.items) }
         ensures deep { (past : List Event) → StandsFor S.MAX self.old past
             → is_too_deep S.MAX e past ≡ true → result ≡ Err (TooDeep (pending past)) }
+        ensures deep_same { (n : ℕ) → result ≡ Err (TooDeep n) → self.new ≡ self.old }
         ensures not_deep { (past : List Event) → StandsFor S.MAX self.old past
             → is_too_deep S.MAX e past ≡ false → IfErr result (λ error. error ≡ Memory) }
         ensures refused { OnErr result (table_of_state self.new ≡ table_of_state self.old) }
@@ -1036,6 +1049,7 @@ impl<S: Lanes> Profiler<S> {
             → OnOk result (IsTaken S.MAX e past self.new done.old.items done.new.items) }
         ensures deep { (past : List Event) → StandsFor S.MAX self.old past
             → is_too_deep S.MAX e past ≡ true → result ≡ Err (TooDeep (pending past)) }
+        ensures deep_same { (n : ℕ) → result ≡ Err (TooDeep n) → self.new ≡ self.old }
         ensures not_deep { (past : List Event) → StandsFor S.MAX self.old past
             → is_too_deep S.MAX e past ≡ false → IfErr result (λ error. error ≡ Memory) }
         ensures refused { OnErr result (table_of_state self.new ≡ table_of_state self.old) }
@@ -1068,6 +1082,7 @@ impl<S: Lanes> Profiler<S> {
             → OnOk result (IsTaken S.MAX e past self.new done.old.items done.new.items) }
         ensures deep { (past : List Event) → StandsFor S.MAX self.old past
             → is_too_deep S.MAX e past ≡ true → result ≡ Err (TooDeep (pending past)) }
+        ensures deep_same { (n : ℕ) → result ≡ Err (TooDeep n) → self.new ≡ self.old }
         ensures not_deep { (past : List Event) → StandsFor S.MAX self.old past
             → is_too_deep S.MAX e past ≡ false → IfErr result (λ error. error ≡ Memory) }
         ensures refused { OnErr result (table_of_state self.new ≡ table_of_state self.old) }

@@ -92,7 +92,7 @@ pub(crate) fn is_latest<S: Stamp>(latest: Latest<S>, counter: u32) -> bool
     latest.stamp.number() == counter && latest.mark == 0
 }
 
-/// A write of one word, by the places of its pages.
+/// A write of one word, by the places of its pages: that of the thread's accesses, and that of the latest write and of the mark.
 #[inline(always)]
 pub(crate) fn write_at<S: Lanes>(
     threads: &mut Threads<S>,
@@ -100,14 +100,14 @@ pub(crate) fn write_at<S: Lanes>(
     own_place: usize,
     writes: &mut Shadow<S>,
     marks: &mut Shadow<u8>,
-    latest: Latest<S>,
+    place: usize,
     w: Word,
     stamp: S,
 )
     requires lives { is_some (value_of threads.old.threads tid) ≡ true }
     requires own { HasPlace (pages_of threads.old.threads tid) w own_place }
-    requires written { HasPlace writes.old.pages w latest.place }
-    requires marked { HasPlace marks.old.pages w latest.place }
+    requires written { HasPlace writes.old.pages w place }
+    requires marked { HasPlace marks.old.pages w place }
     ensures changed { IsChanged threads.old threads.new tid (frames_of threads.old.threads tid)
         (pages_of threads.new.threads tid) }
     ensures access { IsFilled (S.number_of stamp) w 1 (pages_of threads.old.threads tid)
@@ -116,8 +116,8 @@ pub(crate) fn write_at<S: Lanes>(
     ensures marks { IsFilled 0 w 1 marks.old.pages marks.new.pages }
 {
     stamp_word(threads.shadow_mut(tid), own_place, w, stamp);
-    stamp_word(writes, latest.place, w, stamp);
-    stamp_word(marks, latest.place, w, 0);
+    stamp_word(writes, place, w, stamp);
+    stamp_word(marks, place, w, 0);
 }
 
 // A write of one word. Each page is looked up once.

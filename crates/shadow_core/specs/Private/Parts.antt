@@ -47,19 +47,10 @@ abbrev pub PopsInOrder : Type 0
 PopsInOrder = (fs gs : List Frame) (sums : List Sums) → ArePopped fs sums gs →
     (popped (length sums) (reverse fs) ≡ sums) × (frames_after_pops (length sums) (reverse fs) ≡ reverse gs)
 
--- one pop more
-abbrev pub PopsGoOn : Type 0
-PopsGoOn = (n : ℕ) (frames : List Frame) →
-    (popped (n + 1) frames ≡ popped n frames ++ popped 1 (frames_after_pops n frames)) × (frames_after_pops (n + 1) frames ≡ pop (frames_after_pops n frames))
-
 -- ---- Reads of many words.
 -- the words are read one after the other, or in parts
 abbrev pub ReadsGoOn : Type 0
 ReadsGoOn = (ps qs : List Place) (frames : List Frame) → frames_after_reads (ps ++ qs) frames ≡ frames_after_reads qs (frames_after_reads ps frames)
-
-abbrev pub ReadsOneMore : Type 0
-ReadsOneMore = (ps : List Place) (p : Place) (frames : List Frame) →
-    frames_after_reads (ps ++ p ∷ []) frames ≡ frames_after_read p (frames_after_reads ps frames)
 
 -- so are they counted
 abbrev pub CountsGoOn : Type 0

@@ -15,17 +15,7 @@ use Rattle.shadow_core.specs.State.{State, table_of_state}
 use Rattle.shadow_core.specs.Private.StateRows.{Has}
 use Rattle.shadow_core.specs.Private.StateTicks.{renumbered_to}
 
--- there are stamps for the event, by how many frames there are
-abbrev pub StampsAreTold : Type 0
-StampsAreTold = (most : ℕ) (e : Event) (s : State) →
-    has_stamps most e (table_of_state s) ≡ (nat_eq (count_begun e) 0 || nat_le (3 * (length (all_starts s.live.threads) + 2)) most)
-
--- where the event has a tick, `now` is the state after it
-abbrev pub TickIsMade : Type 0
-TickIsMade = (most : ℕ) (e : Event) (s now : State) → ticks e s.last ≡ true → table_of_state now ≡ bounded_tick most (table_of_state s) →
-    table_of_state now ≡ table_at (bounded_tick most) e (table_of_state s)
-
--- and else it is the state before it
+-- an event with no tick finds the state as it was
 abbrev pub NoTickIsMade : Type 0
 NoTickIsMade = (most : ℕ) (e : Event) (s : State) → ticks e s.last ≡ false → table_of_state s ≡ table_at (bounded_tick most) e (table_of_state s)
 
@@ -34,11 +24,6 @@ abbrev pub EventIsMade : Type 0
 EventIsMade = (most : ℕ) (e : Event) (s now new : State) → table_of_state now ≡ table_at (bounded_tick most) e (table_of_state s) →
     table_of_state new ≡ row e (table_of_state now) →
     table_of_state (record new { weight = now.weight + weight_of e }) ≡ table_after (bounded_tick most) e (table_of_state s)
-
--- a thread is still there after all stamps were renumbered, with the calls that it had
-abbrev pub ThreadsStay : Type 0
-ThreadsStay = (s : State) (live : Live) (writes : List Page) (t : ℕ) (was : Stamped) → IsRenumbered s.live live s.writes writes → Has s t was →
-    (is : Stamped) × Has (renumbered_to live writes s) t is × (is.calls ≡ was.calls)
 
 -- a changed thread is there with what it was changed to
 abbrev pub StampedIsThere : Type 0

@@ -7,10 +7,6 @@ use Rattle.stamp_renumber.specs.Ticks.{IsRenumbered, ticked}
 use Rattle.stamp_table.specs.Renewal.{renewed, plain_tick, bounded_tick}
 use Rattle.shadow_core.specs.State.{State, table_of_state}
 
--- the state where the counter went on by one
-abbrev pub counted : State → State
-counted s = record s { counter = s.counter + 1 }
-
 -- the state where all stamps were renumbered
 abbrev pub renumbered_to : Live → List Page → State → State
 renumbered_to live writes s =
@@ -21,9 +17,6 @@ abbrev pub ticked_to : ℕ → Live → List Page → State → State
 ticked_to most live writes s =
     let answer = ticked most s.counter (length (all_starts s.live.threads)) in
     record s { counter = answer.counter; writes = writes; live = live; renumbered = s.renumbered + (if answer.renewed then 1 else 0) }
-
-abbrev pub CountsPlainly : Type 0
-CountsPlainly = (s : State) → table_of_state (counted s) ≡ plain_tick (table_of_state s)
 
 -- The frames are in another order, but the classes are the same.
 abbrev pub RenewsAll : Type 0

@@ -11,7 +11,7 @@ use Rattle.shadow_core.specs.Private.StateRows.{Has}
 
 -- the state before all events
 abbrev pub empty_state : Live → State
-empty_state live = record { counter = 0; writes = []; marks = []; live = live; last = None; greatest = 0; weight = 0; renumbered = 0 }
+empty_state live = record { counter = 0; writes = []; marks = []; live = live; last = None; greatest = 0; weight = 0; renumbered = 0; settled = 0 }
 
 abbrev pub EmptyIsTold : Type 0
 EmptyIsTold = (live : Live) → live.threads ≡ [] → table_of_state (empty_state live) ≡ empty_table

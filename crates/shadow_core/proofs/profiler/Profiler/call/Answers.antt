@@ -1,4 +1,4 @@
-use Rattle.std.proofs.Common.{◌≡◌, ◌∙◌, ℕ, ◌+◌, ◌<◌, ap, arith, sym, subst, All}
+use Rattle.std.proofs.Common.{◌≡◌, ◌∙◌, ℕ, ◌+◌, ◌<◌, ap, arith, sym, subst, All, refl}
 use Rattle.trace_model.specs.declared.event_kinds.Event.TheVariants.{Call}
 use Rattle.shadow_stack.specs.Frames.{starts_of}
 use Rattle.stamp_renumber.specs.Threads.{frames_of}
@@ -8,6 +8,7 @@ use Rattle.shadow_core.specs.State.{State, table_of_state}
 use Rattle.stamp_table.specs.Ticks.{table_after}
 use Rattle.shadow_core.proofs.Begun.{begin_fits, called, goes_on, has_it}
 use Rattle.shadow_core.proofs.Profiled.{alive_here, lives_here}
+use Rattle.shadow_core.proofs.Settled.{whole_still}
 use Rattle.shadow_core.proofs.profiler.Profiler.call.Goals as goal
 
 pub has_room-requires : goal.has_room-requires
@@ -42,3 +43,8 @@ returns-then-has_room-clause-table g c =
     called g.S.Stamp.MAX c.args.tid _ a.was _ _ a.has roomy on
     c.args.entry c.args.back (g.S.Stamp.number_of c.from_number-now.result) c.begin.new.self number begun.threads begun.list begun.counts
     ∙ ap (λ (k : State). table_after (bounded_tick g.S.Stamp.MAX) (Call c.args.tid c.args.entry c.args.back) (table_of_state k)) c.self.view_is
+
+pub invariant_of-self : goal.invariant_of-self
+invariant_of-self g c =
+    let low : c.args.self.now.counter < g.S.Stamp.MAX = omega (arith, c.if-self-MAX.true, c.MAX.ensures, ap (λ (k : State). k.counter) c.self.view_is) in
+    whole_still g.S.Stamp.MAX (Call c.args.tid c.args.entry c.args.back) _ _ _ c.self.view_is c.requires c.self.invariant low (returns-then-has_room-clause-table g c) refl c.self.invariant.marked

@@ -11,6 +11,7 @@ use Rattle.shadow_core.specs.Profiling.{StandsFor}
 use Rattle.shadow_core.specs.State.{State, stepped, table_of_state}
 use Rattle.shadow_core.proofs.After.{above_all, alive_after, call_made, call_shallow, counts_fit, mid_made, starts_fit, taken_after}
 use Rattle.shadow_core.proofs.Profiled.{lives_here}
+use Rattle.shadow_core.proofs.Settled.{whole_call}
 use Rattle.shadow_core.proofs.profiler.Profiler.call_after.Goals as goal
 
 pub is_full-requires : goal.is_full-requires
@@ -20,20 +21,20 @@ is_full-requires g c =
 
 pub begin_after-requires-clause-lives : goal.begin_after-requires-clause-lives
 begin_after-requires-clause-lives g c =
-    let s : State = record { counter = c.self.inside.counter; writes = c.self.inside.writes.pages; marks = c.self.inside.marks.pages; live = c.self.inside.threads; last = c.self.inside.last; greatest = c.self.inside.greatest; weight = c.self.inside.weight; renumbered = c.self.inside.renumbered } in
+    let s : State = record { counter = c.self.inside.counter; writes = c.self.inside.writes.pages; marks = c.self.inside.marks.pages; live = c.self.inside.threads; last = c.self.inside.last; greatest = c.self.inside.greatest; weight = c.self.inside.weight; renumbered = c.self.inside.renumbered; settled = c.self.inside.settled } in
     let may = subst (λ (k : State). MayTakeAfter (StandsFor g.S.Stamp.MAX) (is_within g.S.Stamp.MAX) k c.args.tid c.args.steps (Call c.args.tid c.args.entry c.args.back)) (sym c.self.view_is) c.requires.may in
     lives_here s c.args.tid (alive_after g.S.Stamp.MAX c.args.tid c.args.steps (Call c.args.tid c.args.entry c.args.back) s may c.requires.some)
 
 pub begin_after-requires-clause-fits : goal.begin_after-requires-clause-fits
 begin_after-requires-clause-fits g c =
-    let s : State = record { counter = c.self.inside.counter; writes = c.self.inside.writes.pages; marks = c.self.inside.marks.pages; live = c.self.inside.threads; last = c.self.inside.last; greatest = c.self.inside.greatest; weight = c.self.inside.weight; renumbered = c.self.inside.renumbered } in
+    let s : State = record { counter = c.self.inside.counter; writes = c.self.inside.writes.pages; marks = c.self.inside.marks.pages; live = c.self.inside.threads; last = c.self.inside.last; greatest = c.self.inside.greatest; weight = c.self.inside.weight; renumbered = c.self.inside.renumbered; settled = c.self.inside.settled } in
     let may = subst (λ (k : State). MayTakeAfter (StandsFor g.S.Stamp.MAX) (is_within g.S.Stamp.MAX) k c.args.tid c.args.steps (Call c.args.tid c.args.entry c.args.back)) (sym c.self.view_is) c.requires.may in
     let runs : c.self.inside.last ≡ Some c.args.tid = c.if-not-is_running.ensures.runs refl in
     (counts_fit g.S.Stamp.MAX c.args.tid c.args.steps (Call c.args.tid c.args.entry c.args.back) s may c.requires.some runs).0
 
 pub begin_after-requires-clause-above : goal.begin_after-requires-clause-above
 begin_after-requires-clause-above g c =
-    let s : State = record { counter = c.self.inside.counter; writes = c.self.inside.writes.pages; marks = c.self.inside.marks.pages; live = c.self.inside.threads; last = c.self.inside.last; greatest = c.self.inside.greatest; weight = c.self.inside.weight; renumbered = c.self.inside.renumbered } in
+    let s : State = record { counter = c.self.inside.counter; writes = c.self.inside.writes.pages; marks = c.self.inside.marks.pages; live = c.self.inside.threads; last = c.self.inside.last; greatest = c.self.inside.greatest; weight = c.self.inside.weight; renumbered = c.self.inside.renumbered; settled = c.self.inside.settled } in
     let may = subst (λ (k : State). MayTakeAfter (StandsFor g.S.Stamp.MAX) (is_within g.S.Stamp.MAX) k c.args.tid c.args.steps (Call c.args.tid c.args.entry c.args.back)) (sym c.self.view_is) c.requires.may in
     let runs : c.self.inside.last ≡ Some c.args.tid = c.if-not-is_running.ensures.runs refl in
     let low : c.self.inside.counter < g.S.Stamp.MAX = omega (arith, c.if-self-MAX.false, c.MAX.ensures) in
@@ -44,7 +45,7 @@ begin_after-requires-clause-above g c =
 
 pub overflow_add-self-2 : goal.overflow_add-self-2
 overflow_add-self-2 g c =
-    let s : State = record { counter = c.self.inside.counter; writes = c.self.inside.writes.pages; marks = c.self.inside.marks.pages; live = c.self.inside.threads; last = c.self.inside.last; greatest = c.self.inside.greatest; weight = c.self.inside.weight; renumbered = c.self.inside.renumbered } in
+    let s : State = record { counter = c.self.inside.counter; writes = c.self.inside.writes.pages; marks = c.self.inside.marks.pages; live = c.self.inside.threads; last = c.self.inside.last; greatest = c.self.inside.greatest; weight = c.self.inside.weight; renumbered = c.self.inside.renumbered; settled = c.self.inside.settled } in
     let may = subst (λ (k : State). MayTakeAfter (StandsFor g.S.Stamp.MAX) (is_within g.S.Stamp.MAX) k c.args.tid c.args.steps (Call c.args.tid c.args.entry c.args.back)) (sym c.self.view_is) c.requires.may in
     let runs : c.self.inside.last ≡ Some c.args.tid = c.if-not-is_running.ensures.runs refl in
     let fits = counts_fit g.S.Stamp.MAX c.args.tid c.args.steps (Call c.args.tid c.args.entry c.args.back) s may c.requires.some runs in
@@ -52,7 +53,7 @@ overflow_add-self-2 g c =
 
 pub overflow_add-self-3 : goal.overflow_add-self-3
 overflow_add-self-3 g c =
-    let s : State = record { counter = c.self.inside.counter; writes = c.self.inside.writes.pages; marks = c.self.inside.marks.pages; live = c.self.inside.threads; last = c.self.inside.last; greatest = c.self.inside.greatest; weight = c.self.inside.weight; renumbered = c.self.inside.renumbered } in
+    let s : State = record { counter = c.self.inside.counter; writes = c.self.inside.writes.pages; marks = c.self.inside.marks.pages; live = c.self.inside.threads; last = c.self.inside.last; greatest = c.self.inside.greatest; weight = c.self.inside.weight; renumbered = c.self.inside.renumbered; settled = c.self.inside.settled } in
     let may = subst (λ (k : State). MayTakeAfter (StandsFor g.S.Stamp.MAX) (is_within g.S.Stamp.MAX) k c.args.tid c.args.steps (Call c.args.tid c.args.entry c.args.back)) (sym c.self.view_is) c.requires.may in
     let runs : c.self.inside.last ≡ Some c.args.tid = c.if-not-is_running.ensures.runs refl in
     let fits = counts_fit g.S.Stamp.MAX c.args.tid c.args.steps (Call c.args.tid c.args.entry c.args.back) s may c.requires.some runs in
@@ -60,7 +61,7 @@ overflow_add-self-3 g c =
 
 pub returns-clause-table : goal.returns-clause-table
 returns-clause-table g c = λ yes.
-    let s : State = record { counter = c.self.inside.counter; writes = c.self.inside.writes.pages; marks = c.self.inside.marks.pages; live = c.self.inside.threads; last = c.self.inside.last; greatest = c.self.inside.greatest; weight = c.self.inside.weight; renumbered = c.self.inside.renumbered } in
+    let s : State = record { counter = c.self.inside.counter; writes = c.self.inside.writes.pages; marks = c.self.inside.marks.pages; live = c.self.inside.threads; last = c.self.inside.last; greatest = c.self.inside.greatest; weight = c.self.inside.weight; renumbered = c.self.inside.renumbered; settled = c.self.inside.settled } in
     let may = subst (λ (k : State). MayTakeAfter (StandsFor g.S.Stamp.MAX) (is_within g.S.Stamp.MAX) k c.args.tid c.args.steps (Call c.args.tid c.args.entry c.args.back)) (sym c.self.view_is) c.requires.may in
     let runs : c.self.inside.last ≡ Some c.args.tid = c.if-not-is_running.ensures.runs refl in
     let low : c.self.inside.counter < g.S.Stamp.MAX = omega (arith, c.if-self-MAX.false, c.MAX.ensures) in
@@ -75,7 +76,7 @@ returns-clause-table g c = λ yes.
 
 pub returns-clause-stands : goal.returns-clause-stands
 returns-clause-stands g c = λ yes past stands.
-    let s : State = record { counter = c.self.inside.counter; writes = c.self.inside.writes.pages; marks = c.self.inside.marks.pages; live = c.self.inside.threads; last = c.self.inside.last; greatest = c.self.inside.greatest; weight = c.self.inside.weight; renumbered = c.self.inside.renumbered } in
+    let s : State = record { counter = c.self.inside.counter; writes = c.self.inside.writes.pages; marks = c.self.inside.marks.pages; live = c.self.inside.threads; last = c.self.inside.last; greatest = c.self.inside.greatest; weight = c.self.inside.weight; renumbered = c.self.inside.renumbered; settled = c.self.inside.settled } in
     let may = subst (λ (k : State). MayTakeAfter (StandsFor g.S.Stamp.MAX) (is_within g.S.Stamp.MAX) k c.args.tid c.args.steps (Call c.args.tid c.args.entry c.args.back)) (sym c.self.view_is) c.requires.may in
     let runs : c.self.inside.last ≡ Some c.args.tid = c.if-not-is_running.ensures.runs refl in
     let low : c.self.inside.counter < g.S.Stamp.MAX = omega (arith, c.if-self-MAX.false, c.MAX.ensures) in
@@ -89,3 +90,17 @@ returns-clause-stands g c = λ yes past stands.
     (call_made g.S.Stamp.MAX c.args.tid c.args.steps c.args.entry c.args.back s may c.requires.some runs low
     (g.S.Stamp.number_of c.from_number-now.result) c.begin_after.new.self number (c.if-not-begin_after.ensures.begun refl))
     refl past (subst (λ (k : State). StandsFor g.S.Stamp.MAX k past) (sym c.self.view_is) stands)
+
+pub invariant_of-self-2 : goal.invariant_of-self-2
+invariant_of-self-2 g c =
+    let s : State = record { counter = c.self.inside.counter; writes = c.self.inside.writes.pages; marks = c.self.inside.marks.pages; live = c.self.inside.threads; last = c.self.inside.last; greatest = c.self.inside.greatest; weight = c.self.inside.weight; renumbered = c.self.inside.renumbered; settled = c.self.inside.settled } in
+    let may = subst (λ (k : State). MayTakeAfter (StandsFor g.S.Stamp.MAX) (is_within g.S.Stamp.MAX) k c.args.tid c.args.steps (Call c.args.tid c.args.entry c.args.back)) (sym c.self.view_is) c.requires.may in
+    let runs : c.self.inside.last ≡ Some c.args.tid = c.if-not-is_running.ensures.runs refl in
+    let low : c.self.inside.counter < g.S.Stamp.MAX = omega (arith, c.if-self-MAX.false, c.MAX.ensures) in
+    let e = Call c.args.tid c.args.entry c.args.back in
+    let number : g.S.Stamp.number_of c.from_number-now.result ≡ c.self.inside.counter + 1 =
+    ap g.S.Stamp.number_of c.from_number-now.ensures ∙ g.met.S.Stamp.number_back (c.self.inside.counter + 1) (omega (arith, c.if-self-MAX.false, c.MAX.ensures)) in
+    whole_call g.S.Stamp.MAX c.args.tid c.args.steps s _ runs c.self.invariant (mid_made g.S.Stamp.MAX c.args.tid c.args.steps e s may c.requires.some runs) refl c.self.invariant.marked
+    c.args.entry c.args.back low
+    (call_made g.S.Stamp.MAX c.args.tid c.args.steps c.args.entry c.args.back s may c.requires.some runs low
+    (g.S.Stamp.number_of c.from_number-now.result) c.begin_after.new.self number (c.if-not-begin_after.ensures.begun refl))

@@ -11,6 +11,7 @@ use Rattle.shadow_core.proofs.Profiled.{alive_here, lives_here, on_err}
 use Rattle.std.specs.Prelude.{nat_lt, sum_by}
 use Rattle.stamp_renumber.specs.Costs.{stamps_in, stamps_of, tick_cost}
 use Rattle.shadow_core.proofs.Costs.{stamps_with}
+use Rattle.shadow_core.proofs.Settled.{whole_anew, whole_as_before}
 use Rattle.shadow_core.proofs.profiler.Profiler.call_anew.Goals as goal
 
 pub reserve-requires : goal.reserve-requires
@@ -71,9 +72,6 @@ begin-requires-clause-room g c =
     let roomy : IsRoomy c.self.inside.threads c.args.tid c.reserve.new.self = record { threads = c.in_ok-reserve.ensures.threads; list = c.in_ok-reserve.ensures.list; counts = c.in_ok-reserve.ensures.counts } in
     begin_room g.S.Stamp.MAX c.args.tid _ a.was c.reserve.new.self _ a.has roomy c.advance.ensures.advanced c.in_ok-reserve.ensures.room
 
-pub invariant_of-self-2 : goal.invariant_of-self-2
-invariant_of-self-2 g c = record { marked = λ w h. c.self.invariant.marked w (sym (c.advance.ensures.advanced.covered w) ∙ h) }
-
 pub returns-clause-table : goal.returns-clause-table
 returns-clause-table g c =
     let a = alive_here g.S.Stamp.MAX (Call c.args.tid c.args.entry c.args.back) c.args.tid _ _ c.self.view_is c.requires c.requires.formed.0.0 in
@@ -99,3 +97,14 @@ returns-clause-cost g c =
     let ticked : tick_cost most counter new writes ≡ tick_cost most c.args.self.now.counter c.args.self.now.live c.args.self.now.writes =
     ap (λ n. cond (nat_lt counter most) 0 n) same ∙ ap (λ (k : State). tick_cost most k.counter k.live k.writes) c.self.view_is in
     omega (arith, c.advance.ensures.cost, ticked, c.count.ensures)
+
+pub invariant_of-self-2 : goal.invariant_of-self-2
+invariant_of-self-2 g c =
+    whole_anew g.S.Stamp.MAX (Call c.args.tid c.args.entry c.args.back) c.args.self.now _ c.requires (returns-clause-table g c) refl (λ w h. c.self.invariant.marked w (sym (c.advance.ensures.advanced.covered w) ∙ h))
+
+pub invariant_of-self : goal.invariant_of-self
+invariant_of-self g c =
+    let a = alive_here g.S.Stamp.MAX (Call c.args.tid c.args.entry c.args.back) c.args.tid _ _ c.self.view_is c.requires c.requires.formed.0.0 in
+    let e = c.in_err-reserve.ensures in
+    whole_as_before _ c.args.self.now _ c.self.view_is c.self.invariant
+    (frame_room _ c.args.tid a.was c.reserve.new.self a.has (record { threads = e.threads; list = e.list; counts = e.counts }) ∙ ap table_of_state c.self.view_is) refl c.self.invariant.marked

@@ -1,4 +1,4 @@
-use Rattle.std.proofs.Common.{◌≡◌, ◌∙◌, ◌++◌, ap, arith, length}
+use Rattle.std.proofs.Common.{◌≡◌, ◌∙◌, ◌++◌, ap, arith, length, refl}
 use Rattle.trace_model.specs.declared.event_kinds.Event.TheVariants.{End}
 use Rattle.shadow_stack.specs.Frames.{Stack}
 use Rattle.stamp_renumber.specs.Threads.{calls_of}
@@ -7,6 +7,7 @@ use Rattle.stamp_table.specs.Renewal.{bounded_tick}
 use Rattle.shadow_core.specs.State.{State, table_of_state}
 use Rattle.stamp_table.specs.Ticks.{table_after}
 use Rattle.shadow_core.proofs.Ended.{all_recorded, may_end, thread_ended}
+use Rattle.shadow_core.proofs.Settled.{whole_still}
 use Rattle.shadow_core.proofs.profiler.Profiler.end.Goals as goal
 
 pub frames-requires : goal.frames-requires
@@ -68,3 +69,7 @@ returns-clause-done g c =
     let count : c.depth-ended.result ≡ length (calls_of c.self.inside.threads.threads t).list = omega (arith, c.depth-ended.ensures, frames, may.can.frames) in
     all_recorded t c.depth-ended.result _ c.end_calls.new.threads c.remove.new.self c.reserve.new.self.items c.end_calls.new.done.items may count c.end_calls.ensures.ended c.remove.ensures.threads
     ∙ (λ i. c.in_ok-reserve.ensures.items i ++ finished (End t) (table_of_state (c.self.view_is i)))
+
+pub invariant_of-self : goal.invariant_of-self
+invariant_of-self g c =
+    whole_still g.S.Stamp.MAX (End c.args.tid) _ _ _ c.self.view_is c.requires c.self.invariant tt (returns-clause-table g c) refl c.self.invariant.marked

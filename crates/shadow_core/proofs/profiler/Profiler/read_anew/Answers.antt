@@ -12,6 +12,7 @@ use Rattle.shadow_core.proofs.Reading.{lives_changed, frames_changed}
 use Rattle.shadow_core.proofs.SamePages.{calls_alike, changed_alike, seen_same}
 use Rattle.shadow_core.specs.Private.Reading.{IsReadWithin}
 use Rattle.shadow_core.proofs.Costs.{within_alone, within_before, within_same}
+use Rattle.shadow_core.proofs.Settled.{whole_as_before, whole_still}
 use Rattle.shadow_core.proofs.profiler.Profiler.read_anew.Goals as goal
 
 pub cover_own-requires-clause-lives : goal.cover_own-requires-clause-lives
@@ -117,3 +118,13 @@ returns-clause-cost g c =
     subst (λ (k : State). IsReadWithin (4 + 24 * n) k.live t first n before after) c.self.view_is
     (within_same (4 + 24 * n) old mid t first n before after frames c.in_ok-cover_own.ensures.stamps
     (within_before (4 + n) (23 * n) (4 + 24 * n) mid t first n before c.count.new.self after (omega (arith, c.count.ensures)) (omega arith) c.read-found.ensures.cost))
+
+pub invariant_of-self : goal.invariant_of-self
+invariant_of-self g c =
+    let a = alive_here g.S.Stamp.MAX (Read c.args.tid c.args.first c.args.count) c.args.tid _ _ c.self.view_is c.requires c.requires.formed.0.0.0 in
+    whole_as_before _ c.args.self.now _ c.self.view_is c.self.invariant
+    (own_room _ c.args.tid a.was c.cover_own.new.threads a.has c.in_err-cover_own.ensures.changed c.in_err-cover_own.ensures.stamps ∙ ap table_of_state c.self.view_is) refl c.self.invariant.marked
+
+pub invariant_of-self-2 : goal.invariant_of-self-2
+invariant_of-self-2 g c =
+    whole_still g.S.Stamp.MAX (Read c.args.tid c.args.first c.args.count) _ _ _ c.self.view_is c.requires c.self.invariant tt (returns-clause-table g c) refl c.self.invariant.marked

@@ -11,6 +11,7 @@ use Rattle.shadow_core.proofs.Reading.{lives_changed, not_changed, within_more}
 use Rattle.shadow_core.proofs.SamePages.{calls_alike, changed_alike, seen_same}
 use Rattle.shadow_core.specs.Private.Reading.{IsReadWithin}
 use Rattle.shadow_core.proofs.Costs.{within_before}
+use Rattle.shadow_core.proofs.Settled.{whole_still}
 use Rattle.shadow_core.proofs.profiler.Profiler.read_foreign.Goals as goal
 
 pub from_number-now-requires : goal.from_number-now-requires
@@ -98,3 +99,7 @@ returns-clause-cost g c =
     let before = c.args.steps.now in
     subst (λ (k : State). IsReadWithin 9 k.live t c.args.w 1 before c.read_at-found.new.steps) c.self.view_is
     (within_before 1 8 9 c.self.inside.threads t c.args.w 1 before c.tick.new.self c.read_at-found.new.steps c.tick.ensures (omega arith) c.read_at-found.ensures.cost)
+
+pub invariant_of-self : goal.invariant_of-self
+invariant_of-self g c =
+    whole_still g.S.Stamp.MAX (Read c.args.tid c.args.w 1) _ _ _ c.self.view_is c.requires.may c.self.invariant tt (returns-clause-table g c) refl c.self.invariant.marked

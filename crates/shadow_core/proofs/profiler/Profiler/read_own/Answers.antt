@@ -9,6 +9,7 @@ use Rattle.shadow_core.proofs.Reading.{not_changed, within_more}
 use Rattle.shadow_core.proofs.Repeated.{read_by_own}
 use Rattle.shadow_core.proofs.SamePages.{changed_alike, seen_same}
 use Rattle.shadow_core.specs.Private.Reading.{IsReadWithin}
+use Rattle.shadow_core.proofs.Settled.{whole_still}
 use Rattle.shadow_core.proofs.profiler.Profiler.read_own.Goals as goal
 
 pub from_number-now-requires : goal.from_number-now-requires
@@ -62,3 +63,7 @@ returns-clause-pages g c =
 pub returns-clause-cost : goal.returns-clause-cost
 returns-clause-cost g c =
     subst (λ (k : State). IsReadWithin 4 k.live c.args.tid c.args.w 1 c.args.steps.now c.read_kept.new.steps) c.self.view_is c.read_kept.ensures.cost
+
+pub invariant_of-self : goal.invariant_of-self
+invariant_of-self g c =
+    whole_still g.S.Stamp.MAX (Read c.args.tid c.args.w 1) _ _ _ c.self.view_is c.requires.may c.self.invariant tt (returns-clause-table g c) refl c.self.invariant.marked

@@ -11,38 +11,39 @@ use Rattle.shadow_core.proofs.After.{alive_after, calls_there, counts_fit, few_f
 use Rattle.shadow_core.proofs.Applied.{deep_by_frames}
 use Rattle.shadow_core.proofs.Profiled.{lives_here}
 use Rattle.shadow_core.proofs.SamePages.{seen_same}
+use Rattle.shadow_core.proofs.Settled.{whole_return}
 use Rattle.shadow_core.proofs.profiler.Profiler.return_after.Goals as goal
 
 pub return_after-requires-clause-lives : goal.return_after-requires-clause-lives
 return_after-requires-clause-lives g c =
-    let s : State = record { counter = c.self.inside.counter; writes = c.self.inside.writes.pages; marks = c.self.inside.marks.pages; live = c.self.inside.threads; last = c.self.inside.last; greatest = c.self.inside.greatest; weight = c.self.inside.weight; renumbered = c.self.inside.renumbered } in
+    let s : State = record { counter = c.self.inside.counter; writes = c.self.inside.writes.pages; marks = c.self.inside.marks.pages; live = c.self.inside.threads; last = c.self.inside.last; greatest = c.self.inside.greatest; weight = c.self.inside.weight; renumbered = c.self.inside.renumbered; settled = c.self.inside.settled } in
     let may = subst (λ (k : State). MayTakeAfter (StandsFor g.S.Stamp.MAX) (is_within g.S.Stamp.MAX) k c.args.tid c.args.steps (Ret c.args.tid c.args.target)) (sym c.self.view_is) c.requires.may in
     lives_here s c.args.tid (alive_after g.S.Stamp.MAX c.args.tid c.args.steps (Ret c.args.tid c.args.target) s may c.requires.some)
 
 pub return_after-requires-clause-fits : goal.return_after-requires-clause-fits
 return_after-requires-clause-fits g c =
-    let s : State = record { counter = c.self.inside.counter; writes = c.self.inside.writes.pages; marks = c.self.inside.marks.pages; live = c.self.inside.threads; last = c.self.inside.last; greatest = c.self.inside.greatest; weight = c.self.inside.weight; renumbered = c.self.inside.renumbered } in
+    let s : State = record { counter = c.self.inside.counter; writes = c.self.inside.writes.pages; marks = c.self.inside.marks.pages; live = c.self.inside.threads; last = c.self.inside.last; greatest = c.self.inside.greatest; weight = c.self.inside.weight; renumbered = c.self.inside.renumbered; settled = c.self.inside.settled } in
     let may = subst (λ (k : State). MayTakeAfter (StandsFor g.S.Stamp.MAX) (is_within g.S.Stamp.MAX) k c.args.tid c.args.steps (Ret c.args.tid c.args.target)) (sym c.self.view_is) c.requires.may in
     let runs : c.self.inside.last ≡ Some c.args.tid = c.if-not-is_running.ensures.runs refl in
     (counts_fit g.S.Stamp.MAX c.args.tid c.args.steps (Ret c.args.tid c.args.target) s may c.requires.some runs).0
 
 pub return_after-requires-clause-frames : goal.return_after-requires-clause-frames
 return_after-requires-clause-frames g c =
-    let s : State = record { counter = c.self.inside.counter; writes = c.self.inside.writes.pages; marks = c.self.inside.marks.pages; live = c.self.inside.threads; last = c.self.inside.last; greatest = c.self.inside.greatest; weight = c.self.inside.weight; renumbered = c.self.inside.renumbered } in
+    let s : State = record { counter = c.self.inside.counter; writes = c.self.inside.writes.pages; marks = c.self.inside.marks.pages; live = c.self.inside.threads; last = c.self.inside.last; greatest = c.self.inside.greatest; weight = c.self.inside.weight; renumbered = c.self.inside.renumbered; settled = c.self.inside.settled } in
     let may = subst (λ (k : State). MayTakeAfter (StandsFor g.S.Stamp.MAX) (is_within g.S.Stamp.MAX) k c.args.tid c.args.steps (Ret c.args.tid c.args.target)) (sym c.self.view_is) c.requires.may in
     let runs : c.self.inside.last ≡ Some c.args.tid = c.if-not-is_running.ensures.runs refl in
     calls_there g.S.Stamp.MAX c.args.tid c.args.steps c.args.target s may c.requires.some runs
 
 pub return_after-requires-clause-sums : goal.return_after-requires-clause-sums
 return_after-requires-clause-sums g c =
-    let s : State = record { counter = c.self.inside.counter; writes = c.self.inside.writes.pages; marks = c.self.inside.marks.pages; live = c.self.inside.threads; last = c.self.inside.last; greatest = c.self.inside.greatest; weight = c.self.inside.weight; renumbered = c.self.inside.renumbered } in
+    let s : State = record { counter = c.self.inside.counter; writes = c.self.inside.writes.pages; marks = c.self.inside.marks.pages; live = c.self.inside.threads; last = c.self.inside.last; greatest = c.self.inside.greatest; weight = c.self.inside.weight; renumbered = c.self.inside.renumbered; settled = c.self.inside.settled } in
     let may = subst (λ (k : State). MayTakeAfter (StandsFor g.S.Stamp.MAX) (is_within g.S.Stamp.MAX) k c.args.tid c.args.steps (Ret c.args.tid c.args.target)) (sym c.self.view_is) c.requires.may in
     let runs : c.self.inside.last ≡ Some c.args.tid = c.if-not-is_running.ensures.runs refl in
     pops g.S.Stamp.MAX c.args.tid c.args.steps c.args.target s may c.requires.some runs
 
 pub overflow_add-self : goal.overflow_add-self
 overflow_add-self g c =
-    let s : State = record { counter = c.self.inside.counter; writes = c.self.inside.writes.pages; marks = c.self.inside.marks.pages; live = c.self.inside.threads; last = c.self.inside.last; greatest = c.self.inside.greatest; weight = c.self.inside.weight; renumbered = c.self.inside.renumbered } in
+    let s : State = record { counter = c.self.inside.counter; writes = c.self.inside.writes.pages; marks = c.self.inside.marks.pages; live = c.self.inside.threads; last = c.self.inside.last; greatest = c.self.inside.greatest; weight = c.self.inside.weight; renumbered = c.self.inside.renumbered; settled = c.self.inside.settled } in
     let may = subst (λ (k : State). MayTakeAfter (StandsFor g.S.Stamp.MAX) (is_within g.S.Stamp.MAX) k c.args.tid c.args.steps (Ret c.args.tid c.args.target)) (sym c.self.view_is) c.requires.may in
     let runs : c.self.inside.last ≡ Some c.args.tid = c.if-not-is_running.ensures.runs refl in
     let fits = counts_fit g.S.Stamp.MAX c.args.tid c.args.steps (Ret c.args.tid c.args.target) s may c.requires.some runs in
@@ -50,7 +51,7 @@ overflow_add-self g c =
 
 pub overflow_add-self-in-Some : goal.overflow_add-self-in-Some
 overflow_add-self-in-Some g c =
-    let s : State = record { counter = c.self.inside.counter; writes = c.self.inside.writes.pages; marks = c.self.inside.marks.pages; live = c.self.inside.threads; last = c.self.inside.last; greatest = c.self.inside.greatest; weight = c.self.inside.weight; renumbered = c.self.inside.renumbered } in
+    let s : State = record { counter = c.self.inside.counter; writes = c.self.inside.writes.pages; marks = c.self.inside.marks.pages; live = c.self.inside.threads; last = c.self.inside.last; greatest = c.self.inside.greatest; weight = c.self.inside.weight; renumbered = c.self.inside.renumbered; settled = c.self.inside.settled } in
     let may = subst (λ (k : State). MayTakeAfter (StandsFor g.S.Stamp.MAX) (is_within g.S.Stamp.MAX) k c.args.tid c.args.steps (Ret c.args.tid c.args.target)) (sym c.self.view_is) c.requires.may in
     let runs : c.self.inside.last ≡ Some c.args.tid = c.if-not-is_running.ensures.runs refl in
     let fits = counts_fit g.S.Stamp.MAX c.args.tid c.args.steps (Ret c.args.tid c.args.target) s may c.requires.some runs in
@@ -58,21 +59,21 @@ overflow_add-self-in-Some g c =
 
 pub record_of-requires-clause-thread : goal.record_of-requires-clause-thread
 record_of-requires-clause-thread g c =
-    let s : State = record { counter = c.self.inside.counter; writes = c.self.inside.writes.pages; marks = c.self.inside.marks.pages; live = c.self.inside.threads; last = c.self.inside.last; greatest = c.self.inside.greatest; weight = c.self.inside.weight; renumbered = c.self.inside.renumbered } in
+    let s : State = record { counter = c.self.inside.counter; writes = c.self.inside.writes.pages; marks = c.self.inside.marks.pages; live = c.self.inside.threads; last = c.self.inside.last; greatest = c.self.inside.greatest; weight = c.self.inside.weight; renumbered = c.self.inside.renumbered; settled = c.self.inside.settled } in
     let may = subst (λ (k : State). MayTakeAfter (StandsFor g.S.Stamp.MAX) (is_within g.S.Stamp.MAX) k c.args.tid c.args.steps (Ret c.args.tid c.args.target)) (sym c.self.view_is) c.requires.may in
     let runs : c.self.inside.last ≡ Some c.args.tid = c.if-not-is_running.ensures.runs refl in
     (few_found g.S.Stamp.MAX c.args.tid c.args.steps c.args.target s may c.requires.some runs c.return_after.new.self c.in-Some.ended c.in-Some.ensures.ended).0
 
 pub record_of-requires-clause-kernel : goal.record_of-requires-clause-kernel
 record_of-requires-clause-kernel g c =
-    let s : State = record { counter = c.self.inside.counter; writes = c.self.inside.writes.pages; marks = c.self.inside.marks.pages; live = c.self.inside.threads; last = c.self.inside.last; greatest = c.self.inside.greatest; weight = c.self.inside.weight; renumbered = c.self.inside.renumbered } in
+    let s : State = record { counter = c.self.inside.counter; writes = c.self.inside.writes.pages; marks = c.self.inside.marks.pages; live = c.self.inside.threads; last = c.self.inside.last; greatest = c.self.inside.greatest; weight = c.self.inside.weight; renumbered = c.self.inside.renumbered; settled = c.self.inside.settled } in
     let may = subst (λ (k : State). MayTakeAfter (StandsFor g.S.Stamp.MAX) (is_within g.S.Stamp.MAX) k c.args.tid c.args.steps (Ret c.args.tid c.args.target)) (sym c.self.view_is) c.requires.may in
     let runs : c.self.inside.last ≡ Some c.args.tid = c.if-not-is_running.ensures.runs refl in
     (few_found g.S.Stamp.MAX c.args.tid c.args.steps c.args.target s may c.requires.some runs c.return_after.new.self c.in-Some.ended c.in-Some.ensures.ended).1
 
 pub returns-in-Some-clause-table : goal.returns-in-Some-clause-table
 returns-in-Some-clause-table g c =
-    let s : State = record { counter = c.self.inside.counter; writes = c.self.inside.writes.pages; marks = c.self.inside.marks.pages; live = c.self.inside.threads; last = c.self.inside.last; greatest = c.self.inside.greatest; weight = c.self.inside.weight; renumbered = c.self.inside.renumbered } in
+    let s : State = record { counter = c.self.inside.counter; writes = c.self.inside.writes.pages; marks = c.self.inside.marks.pages; live = c.self.inside.threads; last = c.self.inside.last; greatest = c.self.inside.greatest; weight = c.self.inside.weight; renumbered = c.self.inside.renumbered; settled = c.self.inside.settled } in
     let may = subst (λ (k : State). MayTakeAfter (StandsFor g.S.Stamp.MAX) (is_within g.S.Stamp.MAX) k c.args.tid c.args.steps (Ret c.args.tid c.args.target)) (sym c.self.view_is) c.requires.may in
     let runs : c.self.inside.last ≡ Some c.args.tid = c.if-not-is_running.ensures.runs refl in
     let e = Ret c.args.tid c.args.target in
@@ -83,7 +84,7 @@ returns-in-Some-clause-table g c =
 
 pub returns-in-Some-clause-stands : goal.returns-in-Some-clause-stands
 returns-in-Some-clause-stands g c = λ past stands.
-    let s : State = record { counter = c.self.inside.counter; writes = c.self.inside.writes.pages; marks = c.self.inside.marks.pages; live = c.self.inside.threads; last = c.self.inside.last; greatest = c.self.inside.greatest; weight = c.self.inside.weight; renumbered = c.self.inside.renumbered } in
+    let s : State = record { counter = c.self.inside.counter; writes = c.self.inside.writes.pages; marks = c.self.inside.marks.pages; live = c.self.inside.threads; last = c.self.inside.last; greatest = c.self.inside.greatest; weight = c.self.inside.weight; renumbered = c.self.inside.renumbered; settled = c.self.inside.settled } in
     let may = subst (λ (k : State). MayTakeAfter (StandsFor g.S.Stamp.MAX) (is_within g.S.Stamp.MAX) k c.args.tid c.args.steps (Ret c.args.tid c.args.target)) (sym c.self.view_is) c.requires.may in
     let runs : c.self.inside.last ≡ Some c.args.tid = c.if-not-is_running.ensures.runs refl in
     let e = Ret c.args.tid c.args.target in
@@ -96,7 +97,7 @@ returns-in-Some-clause-stands g c = λ past stands.
 
 pub returns-in-Some-clause-pages : goal.returns-in-Some-clause-pages
 returns-in-Some-clause-pages g c =
-    let s : State = record { counter = c.self.inside.counter; writes = c.self.inside.writes.pages; marks = c.self.inside.marks.pages; live = c.self.inside.threads; last = c.self.inside.last; greatest = c.self.inside.greatest; weight = c.self.inside.weight; renumbered = c.self.inside.renumbered } in
+    let s : State = record { counter = c.self.inside.counter; writes = c.self.inside.writes.pages; marks = c.self.inside.marks.pages; live = c.self.inside.threads; last = c.self.inside.last; greatest = c.self.inside.greatest; weight = c.self.inside.weight; renumbered = c.self.inside.renumbered; settled = c.self.inside.settled } in
     let may = subst (λ (k : State). MayTakeAfter (StandsFor g.S.Stamp.MAX) (is_within g.S.Stamp.MAX) k c.args.tid c.args.steps (Ret c.args.tid c.args.target)) (sym c.self.view_is) c.requires.may in
     let runs : c.self.inside.last ≡ Some c.args.tid = c.if-not-is_running.ensures.runs refl in
     seen_same c.self.view_is (record {
@@ -104,3 +105,12 @@ returns-in-Some-clause-pages g c =
       marks = λ w. refl;
       accesses = return_pages g.S.Stamp.MAX c.args.tid c.args.steps c.args.target s may c.requires.some runs c.return_after.new.self c.in-Some.ended c.in-Some.ensures.ended;
     })
+
+pub invariant_of-self : goal.invariant_of-self
+invariant_of-self g c =
+    let s : State = record { counter = c.self.inside.counter; writes = c.self.inside.writes.pages; marks = c.self.inside.marks.pages; live = c.self.inside.threads; last = c.self.inside.last; greatest = c.self.inside.greatest; weight = c.self.inside.weight; renumbered = c.self.inside.renumbered; settled = c.self.inside.settled } in
+    let may = subst (λ (k : State). MayTakeAfter (StandsFor g.S.Stamp.MAX) (is_within g.S.Stamp.MAX) k c.args.tid c.args.steps (Ret c.args.tid c.args.target)) (sym c.self.view_is) c.requires.may in
+    let runs : c.self.inside.last ≡ Some c.args.tid = c.if-not-is_running.ensures.runs refl in
+    let e = Ret c.args.tid c.args.target in
+    whole_return g.S.Stamp.MAX c.args.tid c.args.steps s _ runs c.self.invariant (mid_made g.S.Stamp.MAX c.args.tid c.args.steps e s may c.requires.some runs) refl c.self.invariant.marked
+    c.args.target (return_made g.S.Stamp.MAX c.args.tid c.args.steps c.args.target s may c.requires.some runs c.return_after.new.self c.in-Some.ended c.in-Some.ensures.ended)

@@ -11,6 +11,7 @@ use Rattle.stamp_table.specs.Ticks.{table_after}
 use Rattle.shadow_core.proofs.Ended.{MayEndIn, left_as_before, may_end, recorded, returned}
 use Rattle.shadow_core.proofs.Profiled.{on_err}
 use Rattle.shadow_core.proofs.SamePages.{seen_same, with_alike}
+use Rattle.shadow_core.proofs.Settled.{whole_as_before, whole_still}
 use Rattle.shadow_core.proofs.profiler.Profiler.return_full.Goals as goal
 
 pub ending-ended-requires : goal.ending-ended-requires
@@ -133,3 +134,11 @@ returns-in_err-reserve-clause-refused g c =
     let may = may_end g.S.Stamp.MAX t (Ret t c.args.target) _ _ c.self.view_is c.requires c.requires.formed.0.0 in
     let same = c.ending-ended.ensures.same in
     on_err c.from_residual.result (left_as_before _ _ c.self.view_is _ same)
+
+pub invariant_of-self : goal.invariant_of-self
+invariant_of-self g c =
+    whole_as_before _ c.args.self.now _ c.self.view_is c.self.invariant (left_as_before _ _ c.self.view_is _ c.ending-ended.ensures.same) refl c.self.invariant.marked
+
+pub invariant_of-self-2 : goal.invariant_of-self-2
+invariant_of-self-2 g c =
+    whole_still g.S.Stamp.MAX (Ret c.args.tid c.args.target) _ _ _ c.self.view_is c.requires c.self.invariant tt (returns-clause-table g c) refl c.self.invariant.marked

@@ -12,9 +12,10 @@ use Rattle.stamp_table.specs.Renewal.{bounded_tick}
 use Rattle.shadow_core.specs.State.{State, table_of_state}
 use Rattle.stamp_table.specs.Ticks.{table_after}
 use Rattle.shadow_core.proofs.Applied.{deep_by_frames, taken}
-use Rattle.shadow_core.proofs.Ended.{as_before, may_end, may_pop, recorded, returned}
+use Rattle.shadow_core.proofs.Ended.{as_before, may_end, may_pop, recorded, returned, left_as_before}
 use Rattle.shadow_core.proofs.Popped.{one_ended}
 use Rattle.shadow_core.proofs.SamePages.{seen_same, with_alike}
+use Rattle.shadow_core.proofs.Settled.{whole_still, whole_as_before}
 use Rattle.shadow_core.proofs.profiler.Profiler.return_one.Goals as goal
 
 pub return_to-requires-clause-lives : goal.return_to-requires-clause-lives
@@ -145,3 +146,12 @@ returns-in-Many-clause-pages g c =
       marks = λ w. refl;
       accesses = λ u w. ap (λ (l : Live). covers (pages_of l.threads u) w) many.2;
     })
+
+pub invariant_of-self : goal.invariant_of-self
+invariant_of-self g c =
+    whole_still g.S.Stamp.MAX (Ret c.args.tid c.args.target) _ _ _ c.self.view_is c.requires c.self.invariant tt (returns-in-One-clause-table g c) refl c.self.invariant.marked
+
+pub invariant_of-self-in-Many : goal.invariant_of-self-in-Many
+invariant_of-self-in-Many g c =
+    let many = subst (λ (r : Returned). IsReturned c.args.tid c.args.target c.self.inside.threads c.return_to.new.self r) c.in-Many.is c.return_to.ensures in
+    whole_as_before _ c.args.self.now _ c.self.view_is c.self.invariant (left_as_before _ _ c.self.view_is c.return_to.new.self many.2) refl c.self.invariant.marked

@@ -7,6 +7,7 @@ use Rattle.stamp_table.specs.Ticks.{table_after}
 use Rattle.shadow_core.specs.Profiling.{StandsFor}
 use Rattle.shadow_core.proofs.Profiled.{lives_after, may_advance, step_fits, stepped}
 use Rattle.shadow_core.proofs.SamePages.{advanced_alike, calls_alike, seen_same}
+use Rattle.shadow_core.proofs.Settled.{whole_anew}
 use Rattle.shadow_core.proofs.profiler.Profiler.step_first.Goals as goal
 
 pub advance-requires-clause-within : goal.advance-requires-clause-within
@@ -35,9 +36,6 @@ add_steps-requires-clause-fits g c =
     let may = subst (λ (k : State). MayTake (StandsFor g.S.Stamp.MAX) k (Step c.args.tid)) (sym c.self.view_is) c.requires in
     step_fits g.S.Stamp.MAX c.args.tid c.is_switch.result _ _ may c.advance.ensures.advanced
 
-pub invariant_of-self : goal.invariant_of-self
-invariant_of-self g c = record { marked = λ w h. c.self.invariant.marked w (sym (c.advance.ensures.advanced.covered w) ∙ h) }
-
 pub returns-clause-table : goal.returns-clause-table
 returns-clause-table g c =
     let may = subst (λ (k : State). MayTake (StandsFor g.S.Stamp.MAX) k (Step c.args.tid)) (sym c.self.view_is) c.requires in
@@ -56,3 +54,7 @@ returns-clause-pages g c =
           calls_alike c.advance.new.threads c.add_steps.new.self c.args.tid _ lives c.add_steps.ensures u w
           ∙ advanced_alike g.S.Stamp.MAX c.is_switch.result _ _ c.advance.ensures.advanced u w;
     })
+
+pub invariant_of-self : goal.invariant_of-self
+invariant_of-self g c =
+    whole_anew g.S.Stamp.MAX (Step c.args.tid) c.args.self.now _ c.requires (returns-clause-table g c) refl (λ w h. c.self.invariant.marked w (sym (c.advance.ensures.advanced.covered w) ∙ h))

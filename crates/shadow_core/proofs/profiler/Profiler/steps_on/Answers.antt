@@ -6,6 +6,7 @@ use Rattle.shadow_core.specs.State.{State}
 use Rattle.shadow_core.proofs.Profiled.{alive_for_step, lives_here}
 use Rattle.shadow_core.proofs.SamePages.{calls_alike, seen_same}
 use Rattle.shadow_core.proofs.Stepped.{may_step_once, steps_fit, steps_made}
+use Rattle.shadow_core.proofs.Settled.{whole_steps}
 use Rattle.shadow_core.proofs.profiler.Profiler.steps_on.Goals as goal
 
 pub add_steps-requires-clause-lives : goal.add_steps-requires-clause-lives
@@ -36,3 +37,7 @@ pub overflow_add-self : goal.overflow_add-self
 overflow_add-self g c =
     let fits = steps_fit g.S.Stamp.MAX c.args.tid c.args.count _ _ c.self.view_is c.requires.may c.requires.some in
     omega (arith, fits.1)
+
+pub invariant_of-self : goal.invariant_of-self
+invariant_of-self g c =
+    whole_steps g.S.Stamp.MAX c.args.tid c.args.count _ c.args.self.now _ c.self.view_is c.requires.runs c.self.invariant (returns-clause-table g c) refl c.self.invariant.marked

@@ -1,4 +1,4 @@
-use Rattle.std.proofs.Common.{◌≡◌, ◌∙◌, ℕ, ap, cond, subst, sym}
+use Rattle.std.proofs.Common.{◌≡◌, ◌∙◌, ℕ, ap, cond, subst, sym, refl}
 use Rattle.trace_model.specs.declared.event_kinds.Event.TheVariants.{Write}
 use Rattle.shadow_pages.specs.Pages.{AreCovered, covers, in_range, stamp_at}
 use Rattle.stamp_renumber.specs.Threads.{pages_of}
@@ -9,6 +9,7 @@ use Rattle.shadow_core.proofs.Accessed.{all_room, own_room, written}
 use Rattle.shadow_core.proofs.Profiled.{advance_here, alive_here, lives_here, on_err}
 use Rattle.shadow_core.proofs.Reading.{lives_changed}
 use Rattle.shadow_core.proofs.SamePages.{changed_alike, seen_same}
+use Rattle.shadow_core.proofs.Settled.{whole_as_before, whole_still}
 use Rattle.shadow_core.proofs.profiler.Profiler.write_anew.Goals as goal
 
 pub cover_own-requires-clause-lives : goal.cover_own-requires-clause-lives
@@ -30,12 +31,6 @@ returns-in_err-cover-clause-refused g c =
     (all_room _ c.args.tid a.was c.cover_own.new.threads c.cover.new.writes.pages c.cover.new.marks.pages a.has
     c.in_ok-cover_own.ensures.changed c.in_ok-cover_own.ensures.stamps c.in_err-cover.ensures.stamps c.in_err-cover.ensures.kinds
     ∙ ap table_of_state c.self.view_is)
-
-pub invariant_of-self-in_err-cover : goal.invariant_of-self-in_err-cover
-invariant_of-self-in_err-cover g c = record { marked = c.in_err-cover.ensures.marked }
-
-pub invariant_of-self-2 : goal.invariant_of-self-2
-invariant_of-self-2 g c = record { marked = λ w h. c.write.ensures.marks.covered w ∙ c.in_ok-cover.ensures.marked w (sym (c.write.ensures.writes.covered w) ∙ h) }
 
 pub from_number-now-requires : goal.from_number-now-requires
 from_number-now-requires g c = (advance_here g.S.Stamp.MAX (Write c.args.tid c.args.first c.args.count) _ _ c.self.view_is c.requires).within
@@ -77,3 +72,22 @@ returns-clause-pages g c = λ own all.
           changed_alike mid c.write.new.threads t _ _ (lives_changed old mid t _ _ lives roomy) c.write.ensures.changed c.write.ensures.access.covered u w
           ∙ changed_alike old mid t _ _ lives roomy (λ v. ap (λ ps. covers ps v) kept) u w;
     })
+
+pub invariant_of-self-2 : goal.invariant_of-self-2
+invariant_of-self-2 g c =
+    whole_still g.S.Stamp.MAX (Write c.args.tid c.args.first c.args.count) _ _ _ c.self.view_is c.requires c.self.invariant tt (returns-clause-table g c) refl
+    (λ w h. c.write.ensures.marks.covered w ∙ c.in_ok-cover.ensures.marked w (sym (c.write.ensures.writes.covered w) ∙ h))
+
+pub invariant_of-self : goal.invariant_of-self
+invariant_of-self g c =
+    let a = alive_here g.S.Stamp.MAX (Write c.args.tid c.args.first c.args.count) c.args.tid _ _ c.self.view_is c.requires c.requires.formed.0.0.0 in
+    whole_as_before _ c.args.self.now _ c.self.view_is c.self.invariant
+    (own_room _ c.args.tid a.was c.cover_own.new.threads a.has c.in_err-cover_own.ensures.changed c.in_err-cover_own.ensures.stamps ∙ ap table_of_state c.self.view_is) refl c.self.invariant.marked
+
+pub invariant_of-self-in_err-cover : goal.invariant_of-self-in_err-cover
+invariant_of-self-in_err-cover g c =
+    let a = alive_here g.S.Stamp.MAX (Write c.args.tid c.args.first c.args.count) c.args.tid _ _ c.self.view_is c.requires c.requires.formed.0.0.0 in
+    whole_as_before _ c.args.self.now _ c.self.view_is c.self.invariant
+    (all_room _ c.args.tid a.was c.cover_own.new.threads c.cover.new.writes.pages c.cover.new.marks.pages a.has
+    c.in_ok-cover_own.ensures.changed c.in_ok-cover_own.ensures.stamps c.in_err-cover.ensures.stamps c.in_err-cover.ensures.kinds
+    ∙ ap table_of_state c.self.view_is) refl c.in_err-cover.ensures.marked

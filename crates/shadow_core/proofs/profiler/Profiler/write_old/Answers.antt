@@ -9,6 +9,7 @@ use Rattle.shadow_core.proofs.Accessed.{written}
 use Rattle.shadow_core.proofs.Profiled.{advance_here, alive_here, lives_here}
 use Rattle.shadow_core.proofs.Reading.{not_changed}
 use Rattle.shadow_core.proofs.SamePages.{changed_alike, seen_same}
+use Rattle.shadow_core.proofs.Settled.{whole_still}
 use Rattle.shadow_core.proofs.profiler.Profiler.write_old.Goals as goal
 
 pub from_number-now-requires : goal.from_number-now-requires
@@ -19,16 +20,13 @@ write_at-requires-clause-lives g c =
     lives_here _ c.args.tid (alive_here g.S.Stamp.MAX (Write c.args.tid c.args.w 1) c.args.tid _ _ c.self.view_is c.requires.may c.requires.may.formed.0.0.0)
 
 pub write_at-requires-clause-own : goal.write_at-requires-clause-own
-write_at-requires-clause-own g c = subst (λ (k : State). HasPlace (pages_of k.live.threads c.args.tid) c.args.w c.args.access.place) (sym c.self.view_is) c.requires.place
+write_at-requires-clause-own g c = subst (λ (k : State). HasPlace (pages_of k.live.threads c.args.tid) c.args.w c.args.own) (sym c.self.view_is) c.requires.own
 
 pub write_at-requires-clause-written : goal.write_at-requires-clause-written
-write_at-requires-clause-written g c = subst (λ (k : State). HasPlace k.writes c.args.w c.args.latest.place) (sym c.self.view_is) c.requires.written
+write_at-requires-clause-written g c = subst (λ (k : State). HasPlace k.writes c.args.w c.args.place) (sym c.self.view_is) c.requires.written
 
 pub write_at-requires-clause-marked : goal.write_at-requires-clause-marked
-write_at-requires-clause-marked g c = subst (λ (k : State). HasPlace k.marks c.args.w c.args.latest.place) (sym c.self.view_is) c.requires.marked
-
-pub invariant_of-self : goal.invariant_of-self
-invariant_of-self g c = record { marked = λ w h. c.write_at.ensures.marks.covered w ∙ c.self.invariant.marked w (sym (c.write_at.ensures.writes.covered w) ∙ h) }
+write_at-requires-clause-marked g c = subst (λ (k : State). HasPlace k.marks c.args.w c.args.place) (sym c.self.view_is) c.requires.marked
 
 pub returns-clause-table : goal.returns-clause-table
 returns-clause-table g c =
@@ -55,3 +53,8 @@ returns-clause-pages g c =
       marks = λ l. c.write_at.ensures.marks.covered l;
       accesses = λ u l. changed_alike c.self.inside.threads c.write_at.new.threads t _ _ lives c.write_at.ensures.changed c.write_at.ensures.access.covered u l;
     })
+
+pub invariant_of-self : goal.invariant_of-self
+invariant_of-self g c =
+    whole_still g.S.Stamp.MAX (Write c.args.tid c.args.w 1) _ _ _ c.self.view_is c.requires.may c.self.invariant tt (returns-clause-table g c) refl
+    (λ w h. c.write_at.ensures.marks.covered w ∙ c.self.invariant.marked w (sym (c.write_at.ensures.writes.covered w) ∙ h))
