@@ -17,7 +17,6 @@ use Rattle.trace_model.specs.Observing.{MayTake}
 use Rattle.trace_model.specs.Profile.{done_of}
 use Rattle.shadow_pages.specs.Pages as pages
 use Rattle.shadow_pages.specs.Pages.{AreCovered, Page, page_of, stamp_at, stamp_in}
-use Rattle.stamp_renumber.specs.Returned.{returned_by}
 use Rattle.stamp_renumber.specs.Threads.{Stamped, all_starts, calls_of, pages_of}
 use Rattle.shadow_core.specs.Applying.{AreInUse, IsTaken, DoesNotAllocate, access_of}
 use Rattle.stamp_table.specs.Allows.{is_too_deep}
@@ -28,7 +27,7 @@ use Rattle.stamp_table.specs.Records.{finished}
 use Rattle.stamp_table.specs.Renewal.{bounded_tick}
 use Rattle.stamp_table.specs.Stands.{Stands}
 use Rattle.shadow_core.specs.State.{State, as_thread, as_threads, table_of_state}
-use Rattle.call_tracker.specs.ThreadCalls.{Calls, CountedCall, no_counts}
+use Rattle.call_tracker.specs.ThreadCalls.{CountedCall, no_counts}
 use Rattle.stamp_table.specs.Table.{Table, Thread, empty_table}
 use Rattle.stamp_table.specs.Ticks.{table_after, table_at}
 use Rattle.shadow_core.proofs.Profiled.{may_advance, there_too}

@@ -20,10 +20,8 @@ use Rattle.stamp_renumber.specs.Threads.{Live, Stamped, calls_of, frames_of, own
 use Rattle.stamp_renumber.specs.WordRead.{IsWordRead}
 use Rattle.call_tracker.specs.ThreadCalls.{no_counts}
 use Rattle.stamp_renumber.specs.LentThread.{with_pages}
-use Rattle.shadow_stack.proofs.Places.{length_changed}
 use Rattle.stamp_renumber.proofs.Changed.{unchanged}
 use Rattle.stamp_table.specs.Frames.{added_to_top, negated, taken_at, gain, frames_after_read, frames_after_reads}
-use Rattle.shadow_core.specs.Private.Parts.{taken}
 use Rattle.stamp_table.proofs.Frames.{same_sums, starts-reads}
 use Rattle.shadow_core.proofs.StateThreads.{differ}
 use Rattle.shadow_core.proofs.Reversed.{reads_where_found, reads_go_on}

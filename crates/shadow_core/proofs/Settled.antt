@@ -3,7 +3,7 @@ use Rattle.std.proofs.Common.{◌≡◌, ℕ, zero, suc, ◌+◌, ◌<◌, ◌�
 use Rattle.std.specs.Prelude.{◌==◌, is_some, nat_lt}
 use Rattle.std.specs.Option.{option_map_or}
 use Rattle.std.proofs.lemmas.Bool.Decides.{nat_tests}
-use Rattle.guest_words.specs.ByThread.{value_of, with_value, without_thread}
+use Rattle.guest_words.specs.ByThread.{value_of, with_value}
 use Rattle.guest_words.proofs.ThreadTables.{value_of-without}
 use Rattle.trace_model.specs.declared.event_kinds.Event.{Event}
 use Rattle.trace_model.specs.declared.event_kinds.Event.TheVariants.{Step, Read, Write, Fill, Call, Ret, Start, End}
@@ -66,10 +66,10 @@ module _ (t : ℕ) (change : Thread → Thread) (old new : Table) (n : ℕ) wher
     where
       by : (o : Option Thread) → value_of old.threads t ≡ o → value_of (changed t change old.threads) t ≡ Some thread → new.write w ≤ thread.access w
       by None none own = absurd (
-        let same : value_of (changed t change old.threads) t ≡ value_of old.threads t =
-        ap (λ (o : Option Thread). value_of (option_map_or (λ (v : Thread). with_value old.threads t (change v)) o old.threads) t) none in
-        let no : Some thread ≡ None = sym own ∙ same ∙ none in
-        cc)
+          let same : value_of (changed t change old.threads) t ≡ value_of old.threads t =
+          ap (λ (o : Option Thread). value_of (option_map_or (λ (v : Thread). with_value old.threads t (change v)) o old.threads) t) none in
+          let no : Some thread ≡ None = sym own ∙ same ∙ none in
+          cc)
       by (Some was) found own =
           let is : value_of (changed t change old.threads) t ≡ Some (change was) =
           value_of-changed old.threads t change was found t ∙ own_test t (Some (change was)) (value_of old.threads t) in

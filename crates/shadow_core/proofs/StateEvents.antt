@@ -1,9 +1,8 @@
 -- Whole events, by the state's parts.
-use Rattle.std.proofs.Common.{◌≡◌, ℕ, ◌+◌, ◌*◌, Bool, true, false, cond, eqb, leb, ◌||◌, List, [], ◌∷◌, Some, refl, sym, ap, subst, ◌∙◌}
+use Rattle.std.proofs.Common.{◌≡◌, ℕ, Bool, true, false, cond, List, [], ◌∷◌, Some, refl, sym, ap, subst, ◌∙◌}
 use Rattle.std.specs.Prelude.{◌==◌}
 use Rattle.guest_words.specs.ByThread.{IsRising, numbers, value_of, with_value}
 use Rattle.guest_words.proofs.ThreadTables.{numbers-with, value_of-with}
-use Rattle.trace_model.specs.Depth.{count_begun}
 use Rattle.stamp_renumber.specs.Threads.{Stamped}
 use Rattle.stamp_table.specs.Table.{event_after}
 use Rattle.stamp_table.specs.Renewal.{bounded_tick}
@@ -11,7 +10,6 @@ use Rattle.shadow_core.specs.State.{table_of_state}
 use Rattle.shadow_core.specs.Private.StateEvents.{NoTickIsMade, EventIsMade, StampedIsThere, LastChangeCounts}
 use Rattle.shadow_core.proofs.StateRows.{weighs_by_parts}
 use Rattle.shadow_core.proofs.StateThreads.{own_test}
-use Rattle.shadow_core.proofs.StateTold.{frames_are_told}
 
 pub no_tick_is_made : NoTickIsMade
 no_tick_is_made most e s asked = sym (ap (λ b. cond b (bounded_tick most (table_of_state s)) (table_of_state s)) asked)

@@ -1,24 +1,15 @@
 -- The words of a range, read at once.
-use Rattle.std.proofs.Common.{◌≡◌, ℕ, ◌+◌, Bool, true, false, cond, List, [], ◌∷◌, ◌++◌, reverse, refl, sym, ap, ◌∙◌, arith, suc, zero, length, pos, subst}
-use Rattle.std.specs.Prelude.{◌==◌, sum_by, slice_index}
-use Rattle.std.proofs.lemmas.Bool.{eq-eqb, eqb-true, false≢true}
-use Rattle.std.proofs.lemmas.Bool.Decides.{nat_tests}
-use Rattle.std.proofs.lemmas.List.FromFn.{map-range_with_len_more}
-use Rattle.std.proofs.lemmas.List.Sums.{sum_by_push}
+use Rattle.std.proofs.Common.{◌≡◌, ℕ, ◌+◌, List, [], ◌∷◌, ◌++◌, reverse, refl, sym, ap, ◌∙◌, arith, suc, zero, length, pos, subst}
+use Rattle.std.specs.Prelude.{slice_index}
 use Rattle.std.proofs.lemmas.List.{get_or_push, length-map, map-append}
-use Rattle.trace_model.specs.Events.{covers}
-use Rattle.stamp_lanes.specs.Plain.{Place, IsBulk}
+use Rattle.stamp_lanes.specs.Plain.{IsBulk}
 use Rattle.shadow_stack.specs.declared.sums.Sums.{Sums}
 use Rattle.shadow_stack.specs.Frames.{Frame, starts_of}
-use Rattle.shadow_pages.specs.Pages.{stamp_at}
-use Rattle.stamp_renumber.specs.Threads.{Stamped}
-use Rattle.stamp_table.specs.Frames.{frames_after_read, frames_after_reads, added_to_top}
-use Rattle.shadow_core.specs.State.{State}
-use Rattle.shadow_core.specs.Private.StateRows.{places_of}
+use Rattle.stamp_table.specs.Frames.{frames_after_reads, added_to_top}
 use Rattle.shadow_core.specs.Private.StateWords.{ReadsAllWords}
 use Rattle.stamp_table.specs.Stands.{IsFalling}
 use Rattle.stamp_table.proofs.Bulk.{reads_at_once}
-use Rattle.shadow_core.proofs.Reversed.{adds_at_the_last, pushes_in_front, reads_where_found}
+use Rattle.shadow_core.proofs.Reversed.{adds_at_the_last, pushes_in_front}
 
 -- the innermost frame and the others
 split_last : (last : ℕ) (fs : List Frame) → length fs ≡ last + 1 → (outer : List Frame) × (top : Frame) × (fs ≡ outer ++ top ∷ []) × (length outer ≡ last)

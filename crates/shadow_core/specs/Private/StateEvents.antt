@@ -1,19 +1,14 @@
 -- A whole event, as changes of the state: its tick, if it has one, its row and its weight.
-use Rattle.std.specs.Prelude.{◌≡◌, ℕ, ◌+◌, ◌*◌, true, false, ◌||◌, nat_eq, nat_le, List, length}
+use Rattle.std.specs.Prelude.{◌≡◌, ℕ, ◌+◌, false, List}
 use Rattle.guest_words.specs.ByThread.{with_value}
 use Rattle.trace_model.specs.declared.event_kinds.Event.{Event}
-use Rattle.trace_model.specs.Depth.{count_begun}
 use Rattle.trace_model.specs.WellFormed.{weight_of}
-use Rattle.shadow_pages.specs.Pages.{Page}
-use Rattle.stamp_renumber.specs.Threads.{Live, Stamped, all_starts}
-use Rattle.stamp_renumber.specs.Ticks.{IsRenumbered}
+use Rattle.stamp_renumber.specs.Threads.{Live, Stamped}
 use Rattle.stamp_table.specs.Table.{row}
 use Rattle.stamp_table.specs.Ticks.{ticks, table_at, table_after}
 use Rattle.stamp_table.specs.Renewal.{bounded_tick}
-use Rattle.stamp_table.specs.Allows.{has_stamps}
 use Rattle.shadow_core.specs.State.{State, table_of_state}
 use Rattle.shadow_core.specs.Private.StateRows.{Has}
-use Rattle.shadow_core.specs.Private.StateTicks.{renumbered_to}
 
 -- an event with no tick finds the state as it was
 abbrev pub NoTickIsMade : Type 0

@@ -4,7 +4,7 @@ use Rattle.guest_words.specs.ByThread.{IsRising, numbers}
 use Rattle.shadow_pages.specs.Pages.{Page}
 use Rattle.stamp_renumber.specs.Threads.{Live, all_starts}
 use Rattle.stamp_renumber.specs.Ticks.{IsRenumbered, ticked}
-use Rattle.stamp_table.specs.Renewal.{renewed, plain_tick, bounded_tick}
+use Rattle.stamp_table.specs.Renewal.{renewed, bounded_tick}
 use Rattle.shadow_core.specs.State.{State, table_of_state}
 
 -- the state where all stamps were renumbered
