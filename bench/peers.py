@@ -1,9 +1,10 @@
 #!/usr/bin/env python3
-"""bench/peers.py [--runs N] [PROGRAM]: one C source, built for the host and for the guest, under the host itself, under
-callgrind, under qemu-riscv32 one instruction at a time (Debian's qemu-user, where it is installed), and under aprof.
-The four run in turn, so many times, so that what else the machine does slows all of them. Prints for each the instructions
-that it ran of the source, and the seconds of the clock and of the processor: the least, the median and the greatest. All are
-of the source alone: the least time of a source that does nothing is taken off."""
+"""bench/peers.py [--runs N] [PROGRAM] [--only NAME ...]: one C source, built for the host and for the guest, under the host
+itself, under callgrind, under qemu-riscv32 one instruction at a time (Debian's qemu-user, where it is installed), and under
+aprof. The four run in turn, so many times, so that what else the machine does slows all of them. Prints for each the
+instructions that it ran of the source, and the seconds of the clock and of the processor: the least, the median and the
+greatest; and in how many turns aprof took less of the processor than callgrind. All are of the source alone: the least time
+of a source that does nothing is taken off. --only leaves out the others; the names are host, callgrind, aprof and qemu."""
 from __future__ import annotations
 
 import argparse
@@ -25,8 +26,12 @@ GUEST = ["--target=riscv32", "-march=rv32ima", "-mabi=ilp32", "-static", "-nostd
 ROUNDS = 400
 QEMU = "qemu, one at a time"
 OF_THE_GUEST = ("aprof", QEMU)
+NAMES = {"host": "the host", "callgrind": "callgrind", "aprof": "aprof", "qemu": QEMU}
+"""What each is called on the command line, and in the table."""
 
 Commands = dict[str, list[Word]]
+Pairs = Sequence[tuple[Ended, Ended]]
+"""Short and long runs of one command."""
 
 
 @dataclass(frozen=True)
@@ -76,6 +81,15 @@ def peers(program: Path, built: Built) -> Commands:
     return found
 
 
+def chosen(found: Commands, only: Sequence[str]) -> Commands:
+    """Those of the commands that are named, or all where none is."""
+    for name in only:
+        if NAMES[name] not in found:
+            raise SystemExit(f"bench/peers.py: no {name} here")
+    names = [NAMES[name] for name in only] or list(found)
+    return {name: words for name, words in found.items() if name in names}
+
+
 def first_number(pattern: str, file: Path) -> int:
     """The number that the pattern finds in a file."""
     found = re.search(pattern, file.read_text())
@@ -120,18 +134,35 @@ def count_beyond(few: Sequence[Word], many: Sequence[Word], folder: Path, count:
     return counts[1] - counts[0]
 
 
-def compare(program: Path, folder: Path, runs: int) -> None:
+def processor_seconds(pairs: Pairs) -> list[float]:
+    """Of each long run, less the least of the short ones."""
+    start = min(short.processor for short, _ in pairs)
+    return [long.processor - start for _, long in pairs]
+
+
+def won(pairs: Pairs, others: Pairs) -> int:
+    """In how many turns the first took less of the processor."""
+    return sum(one < other for one, other in zip(processor_seconds(pairs), processor_seconds(others)))
+
+
+def compare(program: Path, folder: Path, runs: int, only: Sequence[str]) -> None:
     """Prints the table."""
     few, many = (peers(program, build(folder, rounds)) for rounds in (0, ROUNDS))
-    natives, guests = (count_beyond(few[name], many[name], folder, count)
-                       for name, count in (("callgrind", instructions), ("aprof", steps)))
+    told = chosen(many, only)
+    of_guest, of_host = any(name in OF_THE_GUEST for name in told), any(name not in OF_THE_GUEST for name in told)
+    guests = count_beyond(few["aprof"], many["aprof"], folder, steps) if of_guest else 0
+    natives = count_beyond(few["callgrind"], many["callgrind"], folder, instructions) if of_host else 0
     print("| Under | Instructions | Seconds of the clock | of the processor | ns of the processor an instruction |")
     print("|---|---|---|---|---|")
-    for name, pairs in in_turn(few, many, folder, runs).items():
+    ended = in_turn(few, told, folder, runs)
+    for name, pairs in ended.items():
         clock = Times.beyond(*zip(*((short.clock, long.clock) for short, long in pairs)))
         processor = Times.beyond(*zip(*((short.processor, long.processor) for short, long in pairs)))
         ran = guests if name in OF_THE_GUEST else natives
         print(f"| {name} | {ran} | {clock.told(3)} | {processor.told(3)} | {processor.told(1, 1e9 / ran)} |", flush=True)
+    if "aprof" in ended and "callgrind" in ended:
+        less = won(ended["aprof"], ended["callgrind"])
+        print(f"\naprof took less of the processor than callgrind in {less} of {runs} pairs")
 
 
 def number(word: str) -> int:
@@ -146,10 +177,12 @@ def main() -> None:
     """Compares in a folder that is removed."""
     parser = host.parser(__doc__)
     parser.add_argument("--runs", type=number, default=3, metavar="N", help="how many runs of each; 3 unless given")
+    names = ", ".join(NAMES)
+    parser.add_argument("--only", nargs="+", choices=NAMES, default=[], metavar="NAME", help=f"only these: {names}")
     host.add_program(parser)
     words = parser.parse_args()
     with tempfile.TemporaryDirectory() as folder:
-        compare(words.program, Path(folder), words.runs)
+        compare(words.program, Path(folder), words.runs, words.only)
 
 
 if __name__ == "__main__":

@@ -117,6 +117,25 @@ def naming(word: str) -> int:
     return sum(1 for path in files(CRATES, *PROVED) if re.search(rf"\b{word}\b", text_of(path)))
 
 
+def forms() -> int:
+    """How many forms of instructions there are."""
+    return in_file("crates/rv_isa/specs/Table.antt", r"\brow 0x")
+
+
+def cited(own: str, text: str) -> set[tuple[str, str]]:
+    """The modules of proofs that a file of the crate `own` cites from other crates here, each with its crate."""
+    found = re.findall(r"\bRattle\.(\w+)\.proofs\.([\w.]*\w)", text)
+    return {(crate, module) for crate, module in found if crate != own and (CRATES / crate).is_dir()}
+
+
+def cited_modules() -> int:
+    """How many modules of proofs another crate cites."""
+    found: set[tuple[str, str]] = set()
+    for path in files(CRATES, ".rt", ".antt"):
+        found |= cited(path.relative_to(CRATES).parts[0], text_of(path))
+    return len(found)
+
+
 def limit(name: str) -> int:
     found = re.search(rf"\b{name}: \w+ = ([\d_]+)", text_of(CRATES / "guest_words/src/limits.rt"))
     return int(found[1]) if found else -1
@@ -134,7 +153,11 @@ class Count:
 COUNTS = [
     Count("docs/ARCHITECTURE.md", r"(\d+)\s+must-fail\s+edits", edits),
     Count("docs/PERFORMANCE.md", r"\((\d+)\s+now\)", edits),
-    Count("docs/ARCHITECTURE.md", r"table of (\d+) forms", lambda: in_file("crates/rv_isa/specs/Table.antt", r"\brow 0x")),
+    Count("docs/ARCHITECTURE.md", r"table of (\d+) forms", forms),
+    Count("crates/rv_isa/README.md", r"table of (\d+) forms", forms),
+    Count("crates/rv_exec/README.md", r"all (\d+) forms", forms),
+    Count("docs/DECISIONS.md", r"one of (\d+) variants", lambda: in_file("crates/guest_memory/specs/Code.antt", r"^known_of ")),
+    Count("docs/DECISIONS.md", r"\((\d+) modules are cited so\)", cited_modules),
     Count("docs/ARCHITECTURE.md", r"\(`Fill`\): (\d+) files", lambda: naming("Fill")),
     Count("docs/ARCHITECTURE.md", r"\(`TRACE_BYTES`\): (\d+) files", lambda: naming("TRACE_BYTES")),
     Count("docs/DEFINITIONS.md", r"(\d+) calls by number", lambda: in_file("crates/guest_calls/specs/Table.antt", r"\(\d+, \w+\)$")),

@@ -1,6 +1,6 @@
 #!/usr/bin/env python3
 """Checks that each command's options are the same in the program, in `aprof help`, in README and in the man page, and those of
-`show` in its man page and in its own help. Status 0 where they are."""
+`show` in its man page and in its own help; and that `./aprof` knows which commands store something. Status 0 where all is so."""
 from __future__ import annotations
 
 import re
@@ -9,7 +9,7 @@ from collections.abc import Iterator
 from dataclasses import dataclass
 from pathlib import Path
 
-from aprof_launch.commands import COMMANDS
+from aprof_launch.commands import COMMANDS, OUTPUT
 from aprof_launch.usage import usage
 from aprof_show.options import parser
 
@@ -91,6 +91,12 @@ def of_program(text: str) -> Options:
     return commands
 
 
+def of_launcher(text: str) -> set[str]:
+    """The commands of which `./aprof` itself looks whether the output can be written."""
+    found = re.search(r"^ *([a-z |]+)\) is_writable ;;$", text, re.MULTILINE)
+    return set(found[1].split(" | ")) if found else set()
+
+
 def differences(what: str, wanted: Options, found: Options) -> Iterator[str]:
     for name in sorted(wanted.keys() | found.keys()):
         if name not in found or name not in wanted:
@@ -116,6 +122,10 @@ def all_differences(top: Path = TOP) -> Iterator[str]:
     named = {option.name for options in program.values() for option in options}
     yield from (f"docs/aprof.1: no text on {name}" for name in sorted(named - explained))
     yield from (f"docs/aprof.1: {name} is no option of the program" for name in sorted(explained - named))
+    storing = {command.name for command in COMMANDS if OUTPUT in command.options}
+    looked = of_launcher((top / "aprof").read_text())
+    yield from (f"aprof: need_no_look lacks {name}" for name in sorted(storing - looked))
+    yield from (f"aprof: need_no_look has {name}, which stores nothing" for name in sorted(looked - storing))
     shown = of_list((top / "docs/aprof-show.1").read_text())
     yield from differences("docs/aprof-show.1", {"show": of_show()}, {"show": shown})
 

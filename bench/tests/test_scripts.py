@@ -1,16 +1,22 @@
 """The parts of fuzz.py, gate.py, peers.py, refuse_memory.py and lanes.py that start nothing."""
 from __future__ import annotations
 
+import contextlib
+import io
 import random
 import unittest
+from pathlib import Path
+from unittest import mock
 
 import fuzz
 import gate
+import host
 import lanes
+import peers
 from gate import Work
 from guests import EXIT, image
 from host import Ended
-from peers import Times
+from peers import NAMES, QEMU, Times, chosen, won
 from refuse_memory import Left, is_part
 
 
@@ -65,6 +71,30 @@ class Peers(unittest.TestCase):
     def test_times(self) -> None:
         self.assertEqual(Times(0.0131, 0.0134, 0.0142).told(3), "0.013, 0.013, 0.014")
         self.assertEqual(Times.beyond([1.5, 1.0], [4.0, 2.0, 3.0]), Times(1.0, 2.0, 3.0))
+
+    def test_only(self) -> None:
+        found: dict[str, list[host.Word]] = {name: ["true"] for name in NAMES.values() if name != QEMU}
+        self.assertEqual(chosen(found, []), found)
+        self.assertEqual(list(chosen(found, ["aprof", "host"])), ["the host", "aprof"])
+        self.assertRaises(SystemExit, chosen, found, ["aprof", "qemu"])
+
+    def test_pairs(self) -> None:
+        def pairs_of(*seconds: tuple[float, float]) -> list[tuple[Ended, Ended]]:
+            return [(Ended(0, 0.0, short, 0), Ended(0, 0.0, long, 0)) for short, long in seconds]
+
+        aprof = pairs_of((0.5, 2.5), (0.25, 3.0), (0.5, 1.0))
+        callgrind = pairs_of((1.0, 3.5), (1.0, 3.5), (2.0, 3.5))
+        self.assertEqual((won(aprof, callgrind), won(callgrind, aprof)), (2, 1))
+        self.assertEqual(won(aprof, aprof), 0)
+        ended = {"aprof": aprof, "callgrind": callgrind}
+        for only, last in ((["aprof", "callgrind"], "aprof took less of the processor than callgrind in 2 of 3 pairs"),
+                           (["aprof"], "| aprof | 9 |")):
+            with (mock.patch.multiple(peers, build=mock.Mock(return_value=peers.Built(Path("n"), Path("g"))),
+                                      count_beyond=mock.Mock(return_value=9),
+                                      in_turn=lambda few, many, folder, runs: {name: ended[name] for name in many}),
+                  contextlib.redirect_stdout(io.StringIO()) as out):
+                peers.compare(Path("aprof"), Path(), 3, only)
+            self.assertTrue(out.getvalue().splitlines()[-1].startswith(last), out.getvalue())
 
 
 class Refused(unittest.TestCase):

@@ -36,6 +36,12 @@ class Counts(unittest.TestCase):
         said = check.wrong_count(check.Count("docs/PROOFS.md", "no such words", lambda: 0))
         self.assertIn("nothing is like", str(said))
 
+    def test_modules_of_other_crates_are_counted(self) -> None:
+        lines = ["guest_kernel.proofs.Room.{room}", "guest_kernel.proofs.Room.{read}", "guest_run.proofs.Lines.{line}",
+                 "std.proofs.Props.{sym}", "guest_kernel.specs.Times.{time}"]
+        text = "".join(f"use Rattle.{line}\n" for line in lines)
+        self.assertEqual(check.cited("guest_run", text), {("guest_kernel", "Room")})
+
 
 if __name__ == "__main__":
     unittest.main()

@@ -9,7 +9,7 @@ from pathlib import Path
 
 from check_options import TOP, Option, all_differences, of_program, of_readme, of_synopsis
 
-FILES = ("README.md", "docs/aprof.1", "docs/aprof-show.1", "crates/command_line/src/app.rt")
+FILES = ("README.md", "docs/aprof.1", "docs/aprof-show.1", "crates/command_line/src/app.rt", "aprof")
 
 # a file, what stands in it, what is put in its place, and what is found
 CHANGES: Sequence[tuple[str, str, str, Sequence[str]]] = (
@@ -22,6 +22,8 @@ CHANGES: Sequence[tuple[str, str, str, Sequence[str]]] = (
     ("docs/aprof-show.1", ".It Fl -csv\n", ".It x\n", ["docs/aprof-show.1: show lacks [--csv]"]),
     ("docs/aprof-show.1", ".It Fl -top Ar N\n", ".It Fl -top\n", ["show lacks [--top VALUE]", "show has [--top]"]),
     (FILES[3], 'value_option(alloc, "record")', 'value_option(alloc, "keep")', ["aprof help: run lacks [--keep VALUE]"]),
+    (FILES[4], "run | trace | cache", "run | cache", ["aprof: need_no_look lacks trace"]),
+    (FILES[4], "| replay) is_writable", "| replay | sum) is_writable", ["aprof: need_no_look has sum, which stores nothing"]),
 )  # fmt: skip
 
 
