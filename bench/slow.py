@@ -88,8 +88,8 @@ class Profile:
         self.points: dict[int, dict[int, Point]] = {}
 
     def read(self, tid: int, word: int) -> None:
-        """A read of one word. It counts in each activation that began after the last touch, if that was the thread's own or
-        there was none, and in each if it was another's; in bare, where the thread's last access was before the activation."""
+        """A read of one word. It counts in each activation that began after the last touch, if that was the thread's own or there
+        was none, and in each if it was another's; in bare, where the thread's last access was before the activation."""
         thread = self.threads[tid]
         own = thread.accessed.get(word, -1)
         at, writer = self.written.get(word, (-1, tid))
@@ -200,10 +200,11 @@ def compare(bench: Bench, scale: int) -> str:
 
 def options_of(words: Sequence[str]) -> argparse.Namespace:
     """The words of the command line."""
-    parser = argparse.ArgumentParser(prog="bench/slow.py", description=__doc__, formatter_class=argparse.RawDescriptionHelpFormatter)
+    shape = argparse.RawDescriptionHelpFormatter
+    parser = argparse.ArgumentParser(prog="bench/slow.py", description=__doc__, formatter_class=shape)
     parser.add_argument("names", metavar="NAME", nargs="*", help="these programs alone")
     parser.add_argument("--program", type=Path, default=host.PROGRAM, help="the built aprof")
-    parser.add_argument("--at", metavar="SCALE", type=int, default=1, help="the size of the input, as in bench/real.py; 1 unless given")
+    parser.add_argument("--at", metavar="SCALE", type=int, default=1, help="the size of the input; 1 unless given")
     parser.add_argument("--folder", type=Path, default=building.TOP / "build/real", help="of sources, guests and reports")
     return parser.parse_args(words)
 
