@@ -1,9 +1,11 @@
 """The paths that are written: whether they can be, before a run, and what an interrupted one left of them."""
 from __future__ import annotations
 
+import fcntl
 import os
 import re
 import stat
+import termios
 from collections.abc import Iterable
 from pathlib import Path
 
@@ -82,18 +84,21 @@ def notes(read: Words) -> list[str]:
         return []
     is_dash = read.values.get("-o") == "-"
     told = ["aprof: `-o -` is a file of that name; /dev/stdout is standard output"] if is_dash else []
-    return told + (["aprof: the program does not read `< FILE`; --stdin FILE gives it the file"] if is_unread_input(read) else [])
+    takes_input = read.command is not None and read.command.option("--stdin") is not None
+    return told + (unread_input() if takes_input and "--stdin" not in read.values else [])
 
 
-def is_unread_input(read: Words) -> bool:
-    """Whether standard input is a file with something left in it, and the program could read it but is not told to."""
-    if read.command is None or read.command.option("--stdin") is None or "--stdin" in read.values:
-        return False
+def unread_input() -> list[str]:
+    """What is told where standard input, which the program is not told to read, is a file or a pipe with something left in it."""
     try:
         own = os.fstat(0)
-        return stat.S_ISREG(own.st_mode) and own.st_size > os.lseek(0, 0, os.SEEK_CUR)
+        if stat.S_ISREG(own.st_mode) and own.st_size > os.lseek(0, 0, os.SEEK_CUR):
+            return ["aprof: the program does not read `< FILE`; --stdin FILE gives it the file"]
+        if stat.S_ISFIFO(own.st_mode) and any(fcntl.ioctl(0, termios.FIONREAD, bytes(4))):
+            return ["aprof: the program does not read the pipe; --stdin /dev/stdin gives it what comes"]
     except OSError:
-        return False
+        pass
+    return []
 
 
 def has_trace_end(data: bytes) -> bool:

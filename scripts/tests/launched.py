@@ -49,11 +49,11 @@ class Launched(unittest.TestCase):
         (self.folder / "folder").mkdir()
         (self.folder / "text").write_text("a text\n")
 
-    def run_words(self, words: str | Sequence[str], status: int = 0, **more: str) -> subprocess.CompletedProcess[str]:
+    def run_words(self, words: str | Sequence[str], status: int = 0, text: str = "", **more: str) -> subprocess.CompletedProcess[str]:
         listed = words.split() if isinstance(words, str) else words
         environment = os.environ | {"FAKE_STATUS": str(status)} | more
         done = subprocess.run(
-            [str(self.launcher), *listed], cwd=self.folder, env=environment, capture_output=True, text=True, input="what is read"
+            [str(self.launcher), *listed], cwd=self.folder, env=environment, capture_output=True, text=True, input=text
         )
         done.stderr = done.stderr.replace(str(self.launcher), "./aprof")
         return done

@@ -18,7 +18,7 @@ UNFINISHED = "aprof: no report is stored; with --budget N a run ends after N ins
 
 class Runs(Launched):
     def test_standard_input(self) -> None:
-        self.assertIn("what is read", self.run_words("run -o r bubble", FAKE_READ="1").stdout)
+        self.assertIn("what is read", self.run_words("run -o r bubble", text="what is read", FAKE_READ="1").stdout)
 
     def test_unread_input(self) -> None:
         """A file behind `<` is not what the program reads, which is said before the run."""
@@ -30,6 +30,14 @@ class Runs(Launched):
             with open(self.folder / path, "rb") as file:
                 done = subprocess.run([str(self.launcher), *words.split()], cwd=self.folder, stdin=file, capture_output=True, text=True)
             self.assertEqual((done.returncode, done.stderr), (0, told), words)
+
+    def test_unread_pipe(self) -> None:
+        """Nor is what comes through a pipe, which is said where something came before the run."""
+        note = "aprof: the program does not read the pipe; --stdin /dev/stdin gives it what comes\n"
+        (self.folder / "text").touch()
+        cases = [("run -o r bubble", "text", note), ("run -o r bubble", "", ""), ("run --stdin text -o r bubble", "text", "")]
+        for words, text, told in cases:
+            self.assertEqual(self.run_words(words, text=text).stderr, told, words)
 
     def test_installed(self) -> None:
         """Where there are no crates the program stands in bin/, and nothing is built."""
