@@ -90,7 +90,7 @@ def framed(
     framed_lines = [f"{scales.get(row, ''):>{axis}} {bar}{line}" for row, line in enumerate(lines)]
     least, most = short(sizes[0]), short(sizes[1])
     return [
-        f"{routine.label}: greatest cost by size, by powers",
+        f"{routine.label}: greatest cost by size, on logarithmic scales",
         *framed_lines,
         " " * axis + " " + corner + dash * canvas.columns,
         " " * (axis + 2) + least + most.rjust(canvas.columns - len(least)),

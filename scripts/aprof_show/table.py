@@ -77,7 +77,8 @@ def with_causes(lines: Sequence[str], rows: Sequence[Row], room: int) -> list[st
 def cause_text(cause: Cause, reason: Reason | None) -> str:
     """The part is of the calling routine's cost."""
     each = f", {reason.brief}" if reason else ""
-    return f"{100 * cause.part:.0f}% in {cut(cause.routine.label, 50)}{way_text(cause)}, {plural(cause.calls, 'call')}{each}"
+    calls = plural(cause.calls, "call") if cause.calls else "still open"
+    return f"{100 * cause.part:.0f}% in {cut(cause.routine.label, 50)}{way_text(cause)}, {calls}{each}"
 
 
 def way_text(cause: Cause) -> str:
