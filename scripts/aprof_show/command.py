@@ -11,10 +11,10 @@ from aprof_show.against import against_text
 from aprof_show.cache import cache_text
 from aprof_show.data import csv_text, json_text
 from aprof_show.detail import detail, notes
-from aprof_show.heading import open_lines
+from aprof_show.heading import fault_lines, open_lines
 from aprof_show.inputs import ROUTINE_HINT, joined, name_by_image, read_all
 from aprof_show.joining import CannotJoin, join_caches
-from aprof_show.kinship import repeated, strange_pair, strangers, without_contexts
+from aprof_show.kinship import many_new, repeated, strange_pair, strangers, without_contexts
 from aprof_show.limits import above, above_text, not_judged, unreturned
 from aprof_show.model import CacheReport, Context, Profile, Report, Routine
 from aprof_show.names import shorten
@@ -113,7 +113,7 @@ def show(
     elif options.csv:
         print(csv_text(profile, wanted))
     elif options.open:
-        print_lines(open_lines(profile, width()) or ["all calls had returned"])
+        print_lines([*fault_lines(profile), *(open_lines(profile, width()) or ["all calls had returned"])])
     elif options.tree or options.callers or options.folded or options.callgrind:
         show_contexts(options, profile, roots_of(profile), wanted, lines)
     elif wanted:
@@ -165,7 +165,7 @@ def compare(options: argparse.Namespace, new: Profile, new_rows: Sequence[Row], 
     check(options, names, kind_of(options, names))
     for reports in (old.reports, new.reports):
         warn([*repeated(reports), *strangers(reports), *without_contexts(reports)])
-    warn(strange_pair(old.reports, new.reports))
+    warn([*strange_pair(old.reports, new.reports), *many_new(options.against, new.reports)])
     print_lines(against_text(old_rows, new_rows, (old.steps, new.steps), choice_of(options), width(), wanted))
     return judge(new, new_rows, options, wanted) if options.fail_above is not None else 0
 

@@ -16,17 +16,21 @@ MUCH = 0.05
 def head(profile: Profile) -> list[str]:
     ends = Counter(report.end for report in profile.reports)
     texts = [f"end {end}" + (f" ({count})" if len(ends) > 1 else "") for end, count in ends.most_common()]
-    faults = [fault_line(report) for report in profile.reports if report.end.startswith("fault")]
     reports = f"{len(profile.reports)} reports, " if len(profile.reports) > 1 else ""
     still_open = f"{profile.still_open} still open"
     rare = [f"end {end}: {paths_text(profile, end)}" for end, _ in ends.most_common()[1:]]
-    return [f"{reports}{profile.steps} instructions, {', '.join(texts)}, {still_open}", *rare, *faults]
+    return [f"{reports}{profile.steps} instructions, {', '.join(texts)}, {still_open}", *rare, *fault_lines(profile)]
 
 
 def paths_text(profile: Profile, end: str) -> str:
     """The reports that ended so, or the first ones of many."""
     paths = [report.path for report in profile.reports if report.end == end]
     return ", ".join(paths[:3]) + (f" and {len(paths) - 3} more" if len(paths) > 3 else "")
+
+
+def fault_lines(profile: Profile) -> list[str]:
+    """A line for each fault: `open_lines` may not have the routine where it was."""
+    return [fault_line(report) for report in profile.reports if report.end.startswith("fault")]
 
 
 def fault_line(report: Report) -> str:

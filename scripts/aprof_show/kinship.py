@@ -3,6 +3,7 @@ from __future__ import annotations
 
 import os
 from collections.abc import Iterator, Sequence
+from pathlib import Path
 
 from aprof_show.library import musl_names
 from aprof_show.model import Report
@@ -68,6 +69,13 @@ def without_contexts(reports: Sequence[Report]) -> Iterator[str]:
     lacking = [report for report in reports if report.roots is None]
     if 0 < len(lacking) < len(reports):
         yield f"{lacking[0].path} has no calling contexts, so those of the other reports are left out, and so is ITS OWN"
+
+
+def many_new(old: str, new: Sequence[Report]) -> Iterator[str]:
+    """A warning where a pattern of several old reports may have become one old report and many new ones."""
+    folder = Path(old).parent
+    if len(new) > 1 and not Path(old).is_dir() and any(Path(report.path).parent == folder for report in new):
+        yield f"--against takes one old report, here {old}; the other {len(new)} are new: to compare two sets, put each in a folder"
 
 
 def strange_pair(old: Sequence[Report], new: Sequence[Report]) -> Iterator[str]:

@@ -12,7 +12,8 @@ import unittest
 from pathlib import Path
 
 from aprof_show.command import main
-from tests.samples import ADDRESSES, ROOT, Call, Run
+from aprof_show.kinship import many_new
+from tests.samples import ADDRESSES, ROOT, Call, Run, report_of
 
 WORDS = "examples/words/report.txt"
 ROUTINES = "examples/routines/report.txt"
@@ -168,6 +169,9 @@ class Against(unittest.TestCase):
                     (runs / number).write_bytes(path.read_bytes())
             text = show("--against", *map(str, folder_of)).splitlines()
             self.assertEqual(text[0], "12688 instructions before, 23352 after")
+            several = [str(path) for folder in folder_of for path in sorted(folder.glob("[12]"))]
+            self.assertEqual(len(list(many_new(several[0], [report_of(run(1).text(), path) for path in several[1:]]))), 1)
+            self.assertEqual(list(many_new(str(paths[0]), [report_of(run(1).text(), path) for path in several])), [])
             same = show("--against", WORDS, WORDS)
             self.assertIn("of the same growth, share and cost", same)
             self.assertIn("look_up", show("--against", *map(str, paths), "--fail-above", "3", status=1))

@@ -8,7 +8,7 @@ from aprof_show.costs import chain_text, costs_by_routine, costs_of, open_ends
 from aprof_show.joining import join
 from aprof_show.model import Context, Profile
 from aprof_show.stacks import folded
-from aprof_show.heading import open_lines
+from aprof_show.heading import fault_lines, open_lines
 from aprof_show.tree import callers_of, callers_text, tree_text
 from tests.samples import ADDRESSES, Call, Run, random_call, report_of
 
@@ -79,6 +79,12 @@ class OpenAtTheEnd(unittest.TestCase):
         spin = f"{ADDRESSES['spin']:08x}"
         self.assertEqual(open_lines(profile, 80)[0], f"open at the end: {ADDRESSES['main']:08x} > parse > {spin}")
         self.assertIn("--image IMAGE names", "".join(open_lines(profile, 80)))
+
+    def test_fault(self) -> None:
+        """The line on a fault tells its place, which the stacks may not have."""
+        profile = profile_of(SPINNING, end="fault 3 2 00011f60")
+        self.assertEqual(fault_lines(profile), ["the fault: no readable byte, thread 2, at 00011f60"])
+        self.assertEqual(fault_lines(profile_of(SPINNING, end="budget")), [])
 
     def test_what_no_row_has(self) -> None:
         """Where most of the instructions went is said where only open calls had them, and not where they are few."""
