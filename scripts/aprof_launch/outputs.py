@@ -95,7 +95,7 @@ def unread_input() -> list[str]:
         if stat.S_ISREG(own.st_mode) and own.st_size > os.lseek(0, 0, os.SEEK_CUR):
             return ["aprof: the program does not read `< FILE`; --stdin FILE gives it the file"]
         if stat.S_ISFIFO(own.st_mode) and any(fcntl.ioctl(0, termios.FIONREAD, bytes(4))):
-            return ["aprof: the program does not read the pipe; --stdin /dev/stdin gives it what comes"]
+            return ["aprof: the program does not read the pipe; --stdin /dev/stdin gives it what comes (`< /dev/null`: nothing)"]
     except OSError:
         pass
     return []

@@ -43,17 +43,25 @@ def no_code(at: int) -> str:
     return "a call through a wrong function pointer, or a return over an overwritten stack"
 
 
+MOST_STEPS = 10**12
+"""A run has at most so many, and so has a turn of a schedule."""
+
+
 def schedule_line(line: str) -> str:
     """What is wrong with a line of a schedule."""
     if line.endswith("\r"):
         return "lines end in LF, not CR LF"
-    if re.fullmatch("([2-9]|[12][0-9]|3[0-2]) [1-9][0-9]*", line):
-        return "a run begins with thread 1"
-    if re.fullmatch("[0-9]+ 0+", line):
-        return "STEPS is at least 1"
-    if re.fullmatch(r"\s*[0-9]+\s+[0-9]+\s*", line):
+    found = re.fullmatch(r"\s*([0-9]+)\s+([0-9]+)\s*", line)
+    if found is None:
+        return "not of the form TID STEPS, as 1 10000: two numbers and one space"
+    tid, steps = found.groups()
+    if line != f"{tid} {steps}":
         return "there is one space, and it stands between the two numbers"
-    return "not of the form TID STEPS, as 1 10000: two numbers and one space"
+    if not 1 <= int(steps) <= MOST_STEPS:
+        return f"STEPS is 1 to {MOST_STEPS}"
+    if tid[0] == "0" or steps[0] == "0":
+        return "a number begins with no 0"
+    return "a run begins with thread 1"
 
 
 def image_row(number: int) -> list[str]:

@@ -62,7 +62,8 @@ class Lines:
 def read_file(path: str) -> Report | CacheReport:
     """What a file holds, by its first line."""
     with open(path, encoding="ascii", errors="replace", newline="") as file:
-        text = file.read()
+        text = file.read(4096)  # what is no report may have no end
+        text += file.read() if text.startswith("aprof") else ""
     if text in ("", "aprof 1", "aprof 2", "aprof cache 1"):
         raise BadReport(path, 1, "not a report of aprof: " + ("its first line has no end" if text else "empty"))
     lines = Lines(path, text)

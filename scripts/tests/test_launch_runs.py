@@ -33,7 +33,7 @@ class Runs(Launched):
 
     def test_unread_pipe(self) -> None:
         """Nor is what comes through a pipe, which is said where something came before the run."""
-        note = "aprof: the program does not read the pipe; --stdin /dev/stdin gives it what comes\n"
+        note = "aprof: the program does not read the pipe; --stdin /dev/stdin gives it what comes (`< /dev/null`: nothing)\n"
         (self.folder / "text").touch()
         cases = [("run -o r bubble", "text", note), ("run -o r bubble", "", ""), ("run --stdin text -o r bubble", "text", "")]
         for words, text, told in cases:

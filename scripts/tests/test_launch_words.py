@@ -90,7 +90,11 @@ NO_CODE = (
 # the first line of a schedule and what is wrong with it
 LINES = (
     ("2 10", "a run begins with thread 1"),
-    ("1 0", "STEPS is at least 1"),
+    ("33 10", "a run begins with thread 1"),
+    ("1 0", "STEPS is 1 to 1000000000000"),
+    ("1 1000000000001", "STEPS is 1 to 1000000000000"),
+    ("1 05", "a number begins with no 0"),
+    ("01 5", "a number begins with no 0"),
     ("1  5", "there is one space, and it stands between the two numbers"),
     ("1 5\r", "lines end in LF, not CR LF"),
 )
