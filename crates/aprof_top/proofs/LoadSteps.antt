@@ -1,6 +1,6 @@
 -- One more file of a command.
 use Rattle.std.proofs.Common.{◌≡◌, ℕ, zero, suc, ◌+◌, ◌<◌, ◌≤◌, Bool, true, false, ◌||◌, List, [], ◌∷◌, ◌++◌, Option, Some, None, refl, sym, ap, ap₂, ◌∙◌, inl, inr, arith, append-nil, get_or, length, map, subst}
-use Rattle.std.specs.Prelude.{IsSomeAnd, filter, fold, nat_lt, replicate, slice_get, sum_by, zip}
+use Rattle.std.specs.Prelude.{IsSomeAnd, filter, fold, if◌then◌else◌, nat_lt, replicate, slice_get, sum_by, zip}
 use Rattle.std.specs.List.{AllByRecursion, list_any}
 use Rattle.std.proofs.lemmas.Bool.Decides.{nat_tests}
 use Rattle.std.proofs.lemmas.List.{length-append, length-replicate}
