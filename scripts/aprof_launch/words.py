@@ -2,6 +2,7 @@
 from __future__ import annotations
 
 import difflib
+import os
 from dataclasses import dataclass, field
 
 from aprof_launch.commands import BY_NAME, COMMANDS, DEMO, Command, Option, Use
@@ -96,7 +97,7 @@ def read_option(read: Words, command: Command, word: str, left: list[str]) -> st
     name, equals, value = word.partition("=") if is_long else (word[:2], word[2:], word[2:].removeprefix("="))
     option = command.option(name)
     if option is None:
-        return no_option(command, word, name)
+        return no_option(command, word, name, bool(command.further and read.positionals))
     if name in read.values:
         return f"{name} stands twice"
     if not option.metavar:
@@ -111,7 +112,8 @@ def read_option(read: Words, command: Command, word: str, left: list[str]) -> st
     return "" if option.takes(value) else f"{shown}: it takes {option.wanted(value)}"
 
 
-def no_option(command: Command, word: str, name: str) -> str:
+def no_option(command: Command, word: str, name: str, is_behind: bool) -> str:
+    """What is said of a word that may be meant for the program where it stands behind the image."""
     others = [other.name for other in COMMANDS if other.option(name)]
     if others:
         takes_turns = name == "--record" and command.option("--schedule")
@@ -120,13 +122,20 @@ def no_option(command: Command, word: str, name: str) -> str:
     is_output = name in OUTPUT_NAMES and command.option("-o")
     near = "; there is -o" if is_output else nearest(name, [option.name for option in command.options])
     word = name if is_output else word
-    return f"no option {word}{near}" + ("" if near else f"; for an argument of the program write ={word}")
+    return f"no option {word}{near}" + (f"; for an argument of the program write ={word}" if is_behind or not near else "")
 
 
 def no_value(option: Option, left: list[str]) -> str:
     behind = f", and {left[0]} is none" if left else ""
     hint = f" (a file of this name: ./{left[0]})" if left and option.use is not Use.NONE and left[0] != "--" else ""
     return f"{option.name} wants {'a path' if option.use is not Use.NONE else option.wanted()} behind it{behind}{hint}"
+
+
+def taken_for(read: Words, command: Command) -> str:
+    """Which option took a file that may be meant for the image: one whose own path was forgotten."""
+    paths = [(name, value) for name, value in read.values.items() if (option := command.option(name)) and option.use is not Use.NONE]
+    found = next(((name, value) for name, value in reversed(paths) if os.path.isfile(value)), None)
+    return f" ({found[1]} was taken for {found[0]})" if found else ""
 
 
 def lacking(read: Words, command: Command) -> str:
@@ -138,7 +147,8 @@ def lacking(read: Words, command: Command) -> str:
     if missing:
         is_behind = any(len(word) > 1 and word[0] == "-" for word in read.positionals)
         behind = " (behind -- no word is an option)" if is_behind else ""
-        return f"{' and '.join(missing)} {'is' if len(missing) == 1 else 'are'} missing{behind}"
+        taken = taken_for(read, command) if not read.positionals else ""
+        return f"{' and '.join(missing)} {'is' if len(missing) == 1 else 'are'} missing{behind}{taken}"
     if not command.further and len(read.positionals) > 1:
         return f"{read.positionals[1]} is one word too many"
     if command.name == "demo" and not DEMO.takes(read.positionals[0]):

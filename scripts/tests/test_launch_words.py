@@ -38,6 +38,8 @@ HINTS: Sequence[tuple[str | Sequence[str], int, Sequence[str]]] = (
     ("demo 40001", 1, ["aprof: 40001: N is 1 to 40000\n", "usage: aprof demo N\n"]),
     ("demo", 1, ["aprof: N is missing\n"]),
     ("demo 1e3", 1, ["aprof: 1e3: N is a whole number in digits, 1 to 40000\n"]),
+    ("run -o r bubble --bugdet 5", 1, ["aprof: no option --bugdet; there is --budget; for an argument of the program write =--bugdet\n"]),
+    ("run -o r --stdin bubble", 1, ["aprof: IMAGE is missing (bubble was taken for --stdin)\n"]),
     ("run --output r bubble", 1, ["aprof: no option --output; there is -o\n"]),
     ("run --output=r bubble", 1, ["aprof: no option --output; there is -o\n"]),
     ("run -- -o r bubble", 1, ["aprof: -o PATH is missing (behind -- no word is an option)\n"]),
