@@ -74,7 +74,7 @@ def without_contexts(reports: Sequence[Report]) -> Iterator[str]:
 def many_new(old: str, new: Sequence[Report]) -> Iterator[str]:
     """A warning where a pattern of several old reports may have become one old report and many new ones."""
     folder = Path(old).parent
-    if len(new) > 1 and not Path(old).is_dir() and any(Path(report.path).parent == folder for report in new):
+    if len(new) > 2 and not Path(old).is_dir() and any(Path(report.path).parent == folder for report in new):
         yield f"--against takes one old report, here {old}; the other {len(new)} are new: to compare two sets, put each in a folder"
 
 
