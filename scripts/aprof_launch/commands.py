@@ -59,7 +59,7 @@ class Command:
         return next((option for option in self.options if option.name == name), None)
 
 
-OUTPUT = Option("-o", "the file for the report (or trace); it is overwritten", "PATH", required=True, use=Use.WRITTEN)
+OUTPUT = Option("-o", "the file for the report (or trace); an older one there is overwritten", "PATH", required=True, use=Use.WRITTEN)
 STAMPS_TEXT = "bits of a stamp: 32; 16 or 8 take less memory, for at most 21844 or 84 open calls"
 STAMPS = Option("--stamps", STAMPS_TEXT, "8|16|32", 8, 32, (8, 16, 32))
 STATS = Option("--stats", "says how often stamps were renumbered")

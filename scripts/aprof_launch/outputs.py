@@ -54,19 +54,36 @@ def role(read: Words, path: str) -> str:
 
 
 def refusals(read: Words) -> Iterable[str]:
-    """Why what the words name can't be written: a text for each path."""
+    """Why what the words name can't be written, or nothing."""
     outputs = read.outputs()
+    if len(outputs) == 2 and is_same(*outputs):
+        yield f"aprof: cannot write {outputs[0]}: --record and -o name the same file"
+        return
     for path in outputs:
         why = problem(path)
         if not why and is_stdout(path):
             why = "it is standard output, a file, where what the program prints goes"
         if not why and any(is_same(path, other) for other in read.inputs()):
             why = f"it is {role(read, path)}"
+        if not why and is_of_others(path, path == read.values.get("-o")):
+            why = f"it is no {what_is_stored(read, path)}, and is not overwritten"
         if why:
             yield f"aprof: cannot write {path}: {why}"
             return
-    if len(outputs) == 2 and is_same(*outputs):
-        yield f"aprof: cannot write {outputs[0]}: --record and -o name the same file"
+
+
+def what_is_stored(read: Words, path: str) -> str:
+    if path != read.values.get("-o"):
+        return "recording"
+    return "trace" if read.command and read.command.name == "trace" else "report"
+
+
+def is_of_others(path: str, is_output: bool) -> bool:
+    """Whether there is a plain file with something in it that no run stored, as far as it can be read."""
+    try:
+        return os.path.isfile(path) and os.path.getsize(path) > 0 and not is_of_run(path, is_output)
+    except OSError:
+        return False
 
 
 def is_stdout(path: str) -> bool:

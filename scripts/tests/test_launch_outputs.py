@@ -32,6 +32,10 @@ REFUSED = (
     ("run --record bubble -o r bubble", "bubble: it is the program itself"),
     ("run -o /proc/x bubble", "/proc/x: it can't be created there"),
     ("run -o dangling bubble", "dangling: no such folder"),
+    ("run -o text bubble", "text: it is no report, and is not overwritten"),
+    ("cache --sets 1 --ways 1 --line 4 -o text link", "text: it is no report, and is not overwritten"),
+    ("trace -o text bubble", "text: it is no trace, and is not overwritten"),
+    ("run --record text -o r bubble", "text: it is no recording, and is not overwritten"),
 )  # fmt: skip
 
 # words that are run as they stand
@@ -39,7 +43,6 @@ RUN = (
     "run -o r bubble =1 text",
     "run -o /dev/null bubble",
     "run --record /dev/null -o /dev/null bubble",
-    "run -o text bubble",
     "run --record k -o folder/r bubble text text",
     "run -o r -- bubble --progress -h --help",
     "run -o r bubble =-o",
@@ -68,6 +71,16 @@ class Outputs(Launched):
             with self.subTest(words=words):
                 done = self.run_words(words)
                 self.assertEqual((done.returncode, done.stdout, done.stderr), (0, f"words: {words}\n", ""))
+
+    def test_an_older_one(self) -> None:
+        """What a run stored is overwritten, and so is an empty file."""
+        for stored, words in (
+            (b"aprof 2\nend exit 0\n", "run -o r bubble"), (b"aprof cache 1\n", "run -o r bubble"), (b"", "trace -o r bubble"),
+            (b"aprof trace 1\n\0", "trace -o r bubble"), (b"1 10\n2 7\n", "run --record r -o s bubble"),
+        ):  # fmt: skip
+            (self.folder / "r").write_bytes(stored)
+            with self.subTest(words=words):
+                self.assertEqual(self.run_words(words).returncode, 0)
 
     def test_words_stay(self) -> None:
         words = ["run", "-o", "r", "bubble", "=a b", "=*", "=", "=$x", "=\n"]
