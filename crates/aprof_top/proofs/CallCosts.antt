@@ -4,7 +4,6 @@ use Rattle.std.proofs.lemmas.List.{length-map}
 use Rattle.std.proofs.lemmas.Nat.{mul-le}
 use Rattle.guest_calls.specs.Lawful.{AreCopies, IsCopy, bytes_carried, count_copied, words_copied}
 use Rattle.guest_calls.specs.Laws.{EverySyscallIsLawful}
-use Rattle.guest_calls.specs.Results.{number}
 use Rattle.guest_calls.specs.Table.{syscall}
 use Rattle.guest_words.specs.declared.limits.TheConstants.{SYSCALL_EVENTS}
 use Rattle.shadow_core.specs.Costs.{most_untimed, old_words}
@@ -70,7 +69,7 @@ few_cost tid digits bytes met fair =
 
 pub kernel_calls_cost : EverySyscallIsLawful → KernelCallsCostByTheirBytes
 kernel_calls_cost each c digits met is =
-    let bytes = bytes_carried (number c) (syscall c).answer in
+    let bytes = bytes_carried c (syscall c).answer in
     let lawful = each c in
     few_cost c.tid digits bytes met
     (subst (λ (events : List Event). AreFew c.tid bytes events) (sym is) (lawful.few, lawful.words, lawful.copies))

@@ -1,7 +1,7 @@
 -- What the kernel's calls cost the profiler.
 use Rattle.std.specs.Prelude.{◌≡◌, ◌≤◌, ℕ, ◌+◌, ◌*◌, ◌/◌, List, [], ◌∷◌, length, map}
 use Rattle.guest_calls.specs.Lawful.{bytes_carried}
-use Rattle.guest_calls.specs.Results.{Syscall, number}
+use Rattle.guest_calls.specs.Results.{Syscall}
 use Rattle.guest_calls.specs.Table.{syscall}
 use Rattle.guest_calls.specs.Vectors.{part_limit}
 use Rattle.guest_words.specs.declared.limits.TheConstants.{SYSCALL_EVENTS}
@@ -20,8 +20,9 @@ pub record CostsByBytes (digits bytes : ℕ) (met : List (Event × State)) : Typ
   pub few : length met ≤ SYSCALL_EVENTS
   pub steps : untimed digits met ≤ 8 * length met + (32 + digits) * ((bytes + 8 * part_limit) / 4 + 2 * length met)
 
--- This holds for the events of each call and the bytes that it carries, whatever the state of the profiler at each event.
+-- This holds for the events of each call and the bytes that it carries, of which a refused call has none, whatever the state of
+-- the profiler at each event.
 abbrev pub KernelCallsCostByTheirBytes : Type 0
 KernelCallsCostByTheirBytes =
     (c : Syscall) (digits : ℕ) (met : List (Event × State)) → map (λ m. m.0) met ≡ (syscall c).guest.events
-    → CostsByBytes digits (bytes_carried (number c) (syscall c).answer) met
+    → CostsByBytes digits (bytes_carried c (syscall c).answer) met

@@ -6,7 +6,7 @@ use Rattle.guest_kernel.specs.declared.answer.Answer.TheVariants.{Back, Block}
 use Rattle.guest_kernel.specs.Waits.{with_deadline}
 use Rattle.guest_calls.specs.Clock.{clock_gettime, clock_gettime_effect, clock_gettime_tests, clock_nanosleep, clock_nanosleep_effect, clock_nanosleep_tests, nanosleep_end, sleeps, time_bytes, time_size}
 use Rattle.guest_calls.specs.Lawful.{IsLawful, bytes_carried}
-use Rattle.guest_calls.specs.Results.{Syscall, arg, number, readable, reads, returns, ◌▷◌}
+use Rattle.guest_calls.specs.Results.{Syscall, arg, readable, reads, returns, ◌▷◌}
 use Rattle.guest_calls.proofs.Lawful.{AreFailed, few_bytes, kept, lawful_by, lawful_either, lawful_fills, lawful_unless, read_fair, steady}
 use Rattle.guest_kernel.proofs.Reach.{readable_end}
 
@@ -15,7 +15,7 @@ clock_gettime_is_lawful c =
     lawful_unless c (clock_gettime_tests c) (λ _. clock_gettime_effect c)
     (λ (all : AreFailed (clock_gettime_tests c)).
     lawful_fills c c.kernel 0 (arg c 1) (time_bytes c.kernel.time) (steady c.kernel) (λ can. can)
-    (few_bytes time_size (bytes_carried (number c) (Back 0)) (omega arith)) all.1.0)
+    (few_bytes time_size (bytes_carried c (Back 0)) (omega arith)) all.1.0)
 
 pub clock_nanosleep_is_lawful : (c : Syscall) → IsLawful c (clock_nanosleep c)
 clock_nanosleep_is_lawful c =

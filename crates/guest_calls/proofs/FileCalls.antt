@@ -14,7 +14,7 @@ use Rattle.guest_kernel.specs.Kernel.{KernelState, can_run, descriptor, with_des
 use Rattle.guest_calls.specs.Lawful.{IsLawful, bytes_carried}
 use Rattle.guest_kernel.specs.Copies.{read_event}
 use Rattle.guest_calls.specs.Results.{Syscall, arg, number, readable, returns, sets, ◌▷◌}
-use Rattle.guest_calls.proofs.Lawful.{AreFailed, AreFair, IsSteady, calm_lawful, carried_few, few_bytes, kept, lawful_by, lawful_changes, lawful_fills, lawful_unless, read_fair, steady}
+use Rattle.guest_calls.proofs.Lawful.{AreFailed, AreFair, IsSteady, calm_lawful, carried_few, few_bytes, kept, lawful_by, lawful_changes, lawful_fills, lawful_unless, read_carries, read_fair, steady, write_carries}
 use Rattle.guest_calls.proofs.Passed.{found_below, found_from}
 use Rattle.guest_kernel.proofs.Reach.{readable_end}
 
@@ -67,7 +67,7 @@ llseek_is_lawful c =
     let position = unsigned_abs (target c.kernel file (arg c 1) (arg c 2) (arg c 4)) in
     lawful_fills c (with_descriptor c.kernel (arg c 0) (with_position file position)) 0 (arg c 3) (to_le_bytes w64 position)
     (sets_steady c.kernel (arg c 0) (with_position file position)) (λ can. can)
-    (few_bytes 8 (bytes_carried (number c) (Back 0)) (omega arith)) all.1.1.1.1.0)
+    (few_bytes 8 (bytes_carried c (Back 0)) (omega arith)) all.1.1.1.1.0)
 
 pub read_is_lawful : (c : Syscall) → number c ≡ 63 → IsLawful c (read c)
 read_is_lawful c is =
@@ -76,7 +76,7 @@ read_is_lawful c is =
     let file = descriptor c.kernel (arg c 0) in
     let n = length (read_bytes c) in
     lawful_fills c (advanced file (arg c 0) n c.kernel) n (arg c 1) (read_bytes c)
-    (advanced_steady file (arg c 0) n c.kernel) (advanced_able file (arg c 0) n c.kernel c.tid) (carried_few c 63 n is refl) all.1.0)
+    (advanced_steady file (arg c 0) n c.kernel) (advanced_able file (arg c 0) n c.kernel c.tid) (carried_few c n (read_carries c is all)) all.1.0)
 
 pub min_few : (n : ℕ) → min n 65536 ≤ 65536
 min_few n = omega arith
@@ -93,7 +93,7 @@ write_is_lawful c is =
       able = λ can goes. can;
       held = λ q some. some;
       free = λ free. free;
-      fair = read_fair c.tid (bytes_carried (number c) (Back n)) (arg c 1) n (min_few (arg c 2)) (carried_few c 64 n is refl)
+      fair = read_fair c.tid (bytes_carried c (Back n)) (arg c 1) n (min_few (arg c 2)) (carried_few c n (write_carries c is all))
           (readable_end c.memory (arg c 1) n (not-false (readable c (arg c 1) n) all.1.0));
       silent = λ no_write no_writev. absurd (no_write is);
     }))

@@ -1,6 +1,6 @@
 -- What makes a call lawful: lemmas for all calls, and for the kinds that most of them are.
-use Rattle.std.proofs.Common.{◌≡◌, ◌≢◌, ℕ, zero, suc, ◌≤◌, ◌+◌, ◌*◌, ◌/◌, ◌^◌, Bool, true, false, List, [], ◌∷◌, ◌++◌, length, length-append, map, Option, Some, None, arith, refl, ap, sym, subst, ◌∙◌}
-use Rattle.std.specs.Prelude.{not, ◌==◌, ◌||◌, is_some}
+use Rattle.std.proofs.Common.{◌≡◌, ◌≢◌, ℕ, zero, suc, ◌≤◌, ◌+◌, ◌*◌, ◌/◌, ◌^◌, Bool, true, false, cond, List, [], ◌∷◌, ◌++◌, length, length-append, map, Option, Some, None, arith, refl, ap, sym, subst, ◌∙◌}
+use Rattle.std.specs.Prelude.{not, ◌==◌, ◌||◌, is_none, is_some}
 use Rattle.std.specs.List.{list_any}
 use Rattle.std.proofs.lemmas.Bool.{not-false}
 use Rattle.guest_words.specs.declared.limits.TheConstants.{SYSCALL_EVENTS}
@@ -15,10 +15,12 @@ use Rattle.guest_kernel.specs.declared.answer.Answer.{Answer}
 use Rattle.guest_kernel.specs.declared.answer.Answer.TheVariants.{Back, Yield, Block}
 use Rattle.guest_kernel.specs.declared.thread.Thread.{Thread}
 use Rattle.guest_kernel.specs.Kernel.{KernelState, can_run, lives}
-use Rattle.guest_calls.specs.Lawful.{AreCopies, BeginsBehind, EndsWithByte, GivesNumber, IsLawful, bytes_carried, goes_on, tids, tids_after, words_copied}
+use Rattle.guest_calls.specs.Files.{read_tests, write_tests}
+use Rattle.guest_calls.specs.Lawful.{AreCopies, BeginsBehind, EndsWithByte, GivesNumber, IsLawful, bytes_carried, carries, goes_on, passes, tids, tids_after, words_copied}
 use Rattle.guest_calls.specs.Pages.{IsBreakFree, remaps}
 use Rattle.guest_kernel.specs.Copies.{fill_event, read_event}
 use Rattle.guest_calls.specs.Results.{Syscall, SyscallResult, Guest, ◌▷◌, answered_or, changes, either, filled, fills, first_answer, number, returns, unless, writable}
+use Rattle.guest_calls.specs.Vectors.{readv_tests, writev_tests}
 use Rattle.guest_calls.proofs.Passed.{failed}
 use Rattle.guest_kernel.proofs.Reach.{writable_end}
 use Rattle.guest_kernel.proofs.Room.{fill_few, read_few}
@@ -107,22 +109,55 @@ two_fair tid xs ys one two light also short shorter copies more = record {
   words = omega (arith, words-append xs ys, short, shorter);
 }
 
+-- ---- tests
+-- all of them failed
+abbrev pub AreFailed : List (Bool × ℕ) → Type 0
+AreFailed [] = Unit {0}
+AreFailed (t ∷ tests) = (t.0 ≡ false) × AreFailed tests
+
+all_failed : (tests : List (Bool × ℕ)) → first_answer tests ≡ None → AreFailed tests
+all_failed [] passed = tt
+all_failed (t ∷ tests) passed = let one = failed t.0 t.1 (first_answer tests) passed in (one.0, all_failed tests one.1)
+
+none_answers : (tests : List (Bool × ℕ)) → AreFailed tests → first_answer tests ≡ None
+none_answers [] all = refl
+none_answers (t ∷ tests) all = ap (λ (b : Bool). cond b (Some t.1) (first_answer tests)) all.0 ∙ none_answers tests all.1
+
+all_pass : (tests : List (Bool × ℕ)) → AreFailed tests → passes tests ≡ true
+all_pass tests all = ap (λ (o : Option ℕ). is_none o) (none_answers tests all)
+
 -- ---- bytes that are carried
+-- a call of these that no test refuses carries its bytes
+pub read_carries : (c : Syscall) → number c ≡ 63 → AreFailed (read_tests c) → carries (number c) c ≡ true
+unfolding carries
+read_carries c is all = ap (λ (k : ℕ). carries k c) is ∙ ap (λ (b : Bool). b || false) (all_pass (read_tests c) all)
+
+pub write_carries : (c : Syscall) → number c ≡ 64 → AreFailed (write_tests c) → carries (number c) c ≡ true
+unfolding carries
+write_carries c is all = ap (λ (k : ℕ). carries k c) is ∙ ap (λ (b : Bool). b || false) (all_pass (write_tests c) all)
+
+pub readv_carries : (c : Syscall) → number c ≡ 65 → AreFailed (readv_tests c) → carries (number c) c ≡ true
+unfolding carries
+readv_carries c is all = ap (λ (k : ℕ). carries k c) is ∙ ap (λ (b : Bool). b || false) (all_pass (readv_tests c) all)
+
+pub writev_carries : (c : Syscall) → number c ≡ 66 → AreFailed (writev_tests c) → carries (number c) c ≡ true
+unfolding carries
+writev_carries c is all = ap (λ (k : ℕ). carries k c) is ∙ all_pass (writev_tests c) all
+
 -- what is answered is carried
-answered : (c : Syscall) (call n : ℕ) → number c ≡ call → bytes_carried call (Back n) ≡ n → bytes_carried (number c) (Back n) ≡ n
-answered c call n is all = ap (λ (k : ℕ). bytes_carried k (Back n)) is ∙ all
+answered : (c : Syscall) (n : ℕ) → carries (number c) c ≡ true → bytes_carried c (Back n) ≡ n
+answered c n does = ap (λ (b : Bool). cond b n 0) does
 
 at_most : (n bytes : ℕ) → bytes ≡ n → n ≤ bytes + 8192
 at_most n bytes is = omega (arith, is)
 
-pub carried_few : (c : Syscall) (call n : ℕ) → number c ≡ call → bytes_carried call (Back n) ≡ n →
-    n ≤ bytes_carried (number c) (Back n) + 8192
-carried_few c call n is all = at_most n (bytes_carried (number c) (Back n)) (answered c call n is all)
+pub carried_few : (c : Syscall) (n : ℕ) → carries (number c) c ≡ true → n ≤ bytes_carried c (Back n) + 8192
+carried_few c n does = at_most n (bytes_carried c (Back n)) (answered c n does)
 
-pub carried_fair : (c : Syscall) (call n : ℕ) (events : List Event) → number c ≡ call → bytes_carried call (Back n) ≡ n →
-    AreFair c.tid n events → AreFair c.tid (bytes_carried (number c) (Back n)) events
-carried_fair c call n events is all fair =
-    subst (λ (bytes : ℕ). AreFair c.tid bytes events) (sym (answered c call n is all)) fair
+pub carried_fair : (c : Syscall) (n : ℕ) (events : List Event) → carries (number c) c ≡ true →
+    AreFair c.tid n events → AreFair c.tid (bytes_carried c (Back n)) events
+carried_fair c n events does fair =
+    subst (λ (bytes : ℕ). AreFair c.tid bytes events) (sym (answered c n does)) fair
 
 -- so few bytes are within the longest table
 pub few_bytes : (n bytes : ℕ) → n ≤ 8192 → n ≤ bytes + 8192
@@ -200,7 +235,7 @@ pub record IsCalm (c : Syscall) (r : SyscallResult) : Type 0 where
   pub able : can_run c.kernel c.tid ≡ true → goes_on r.answer ≡ true → can_run r.kernel c.tid ≡ true
   pub held : (q : ℕ) → is_some (r.guest.held q) ≡ true → is_some (c.held q) ≡ true
   pub free : IsBreakFree c.memory c.kernel.program_break → IsBreakFree r.guest.memory r.kernel.program_break
-  pub fair : AreFair c.tid (bytes_carried (number c) r.answer) r.guest.events
+  pub fair : AreFair c.tid (bytes_carried c r.answer) r.guest.events
   pub silent : number c ≢ 64 → number c ≢ 66 → r.out ≡ None
 
 pub calm_lawful : (c : Syscall) (r : SyscallResult) → IsCalm c r → IsLawful c r
@@ -226,7 +261,7 @@ StillRuns c k = can_run c.kernel c.tid ≡ true → can_run k c.tid ≡ true
 
 -- a call that answers so and puts no byte out
 pub lawful_carries : (c : Syscall) (answer : Answer) (k : KernelState) (g : Guest) → Stays answer → IsSteady c.kernel k →
-    (goes_on answer ≡ true → StillRuns c k) → IsKept c g → AreFair c.tid (bytes_carried (number c) answer) g.events →
+    (goes_on answer ≡ true → StillRuns c k) → IsKept c g → AreFair c.tid (bytes_carried c answer) g.events →
     IsLawful c (record { answer = answer; kernel = k; guest = g; out = None })
 lawful_carries c answer k g stays same able rest fair = calm_lawful c _ (record {
   stays = stays;
@@ -244,7 +279,7 @@ pub lawful_by : (c : Syscall) (answer : Answer) (k : KernelState) (g : Guest) �
     (goes_on answer ≡ true → StillRuns c k) → IsKept c g → AreFair c.tid 0 g.events →
     IsLawful c (record { answer = answer; kernel = k; guest = g; out = None })
 lawful_by c answer k g stays same able rest fair =
-    lawful_carries c answer k g stays same able rest (any_fair c.tid (bytes_carried (number c) answer) g.events fair)
+    lawful_carries c answer k g stays same able rest (any_fair c.tid (bytes_carried c answer) g.events fair)
 
 -- a call that changes the kernel alone
 pub lawful_changes : (c : Syscall) (k : KernelState) (value : ℕ) → IsSteady c.kernel k → StillRuns c k →
@@ -258,12 +293,12 @@ lawful_returns c value = lawful_changes c c.kernel value (steady c.kernel) (λ c
 
 -- a call that fills bytes, where they can be written, and may change the kernel
 pub lawful_fills : (c : Syscall) (k : KernelState) (value at : ℕ) (bytes : List ℕ) → IsSteady c.kernel k → StillRuns c k →
-    length bytes ≤ bytes_carried (number c) (Back value) + 8192 → not (writable c at (length bytes)) ≡ false →
+    length bytes ≤ bytes_carried c (Back value) + 8192 → not (writable c at (length bytes)) ≡ false →
     IsLawful c (record (returns c value ▷ fills at bytes) { kernel = k })
 lawful_fills c k value at bytes same able within reach =
     lawful_carries c (Back value) k (returns c value ▷ fills at bytes).guest tt same (λ goes. able)
     (filled_kept c (returns c value).guest at bytes (kept c []))
-    (fill_fair c.tid (bytes_carried (number c) (Back value)) at (length bytes) within
+    (fill_fair c.tid (bytes_carried c (Back value)) at (length bytes) within
     (writable_end c.memory at (length bytes) (not-false (writable c at (length bytes)) reach)))
 
 -- a call that changes the pages, and in the kernel at most the break
@@ -277,7 +312,7 @@ lawful_remaps c value b m free = calm_lawful c _ (record {
   able = λ can goes. can;
   held = λ q some. some;
   free = free;
-  fair = any_fair c.tid (bytes_carried (number c) (Back value)) [] (none_fair c.tid);
+  fair = any_fair c.tid (bytes_carried c (Back value)) [] (none_fair c.tid);
   silent = λ no_write no_writev. refl;
 })
 
@@ -286,16 +321,7 @@ pub lawful_either : (c : Syscall) (b : Bool) (one other : SyscallResult → Sysc
 lawful_either c true one other r here there = here
 lawful_either c false one other r here there = there
 
--- ---- tests
--- all of them failed
-abbrev pub AreFailed : List (Bool × ℕ) → Type 0
-AreFailed [] = Unit {0}
-AreFailed (t ∷ tests) = (t.0 ≡ false) × AreFailed tests
-
-all_failed : (tests : List (Bool × ℕ)) → first_answer tests ≡ None → AreFailed tests
-all_failed [] passed = tt
-all_failed (t ∷ tests) passed = let one = failed t.0 t.1 (first_answer tests) passed in (one.0, all_failed tests one.1)
-
+-- ---- calls with tests
 lawful_answered : (c : Syscall) (o : Option ℕ) (effect : Unit {0} → SyscallResult) →
     (o ≡ None → IsLawful c (effect tt)) → IsLawful c (answered_or o c effect)
 lawful_answered c None effect done = done refl

@@ -12,7 +12,7 @@ use Rattle.guest_kernel.specs.declared.thread.Thread.{Thread}
 use Rattle.guest_calls.specs.Futex.{wakes}
 use Rattle.guest_kernel.specs.Kernel.{KernelState, has_others, is_blocked, is_thread, other_threads}
 use Rattle.guest_calls.specs.Lawful.{BeginsBehind, EndsWithByte, GivesNumber, IsLawful, bytes_carried, goes_on, tids, tids_after}
-use Rattle.guest_calls.specs.Results.{Syscall, Guest, answers, arg, fills, fills_word, number, returns, when, writable, ◌▷◌}
+use Rattle.guest_calls.specs.Results.{Syscall, Guest, answers, arg, fills, fills_word, returns, when, writable, ◌▷◌}
 use Rattle.guest_kernel.specs.Threads.{with_clear_tid}
 use Rattle.guest_calls.specs.Threads.{clear_tid, exit, exit_group, is_cleared, leaves, rt_sigprocmask, rt_sigprocmask_effect, rt_sigprocmask_tests, sched_yield, set_tid_address, status}
 use Rattle.guest_calls.proofs.Lawful.{AreFailed, AreFair, IsKept, IsSteady, any_fair, few_bytes, fill_fair, filled_kept, kept, kept_free, lawful_by, lawful_changes, lawful_fills, lawful_returns, lawful_unless, lives_by, none_fair, steady}
@@ -41,7 +41,7 @@ masked : (c : Syscall) (asked : Bool) (at : ℕ) → (asked && not (writable c a
     IsLawful c (when asked (fills at (replicate 8 0)) (returns c 0))
 masked c true at reach =
     lawful_fills c c.kernel 0 at (replicate 8 0) (steady c.kernel) (λ can. can)
-    (few_bytes 8 (bytes_carried (number c) (Back 0)) (omega arith)) reach
+    (few_bytes 8 (bytes_carried c (Back 0)) (omega arith)) reach
 masked c false at reach = lawful_returns c 0
 
 pub rt_sigprocmask_is_lawful : (c : Syscall) → IsLawful c (rt_sigprocmask c)
@@ -94,7 +94,7 @@ leaves_by c answer k g left numbers begins byte ends same rest fair = record {
   few = fair.few;
   light = fair.light;
   copies = fair.copies;
-  words = (any_fair c.tid (bytes_carried (number c) answer) g.events fair).words;
+  words = (any_fair c.tid (bytes_carried c answer) g.events fair).words;
   break_free = kept_free c k g same rest;
   numbers = numbers;
   threads = filter_tids k.threads c.tid ∙ ap (filter (λ n. not (n == c.tid))) same.threads ∙ sym left;

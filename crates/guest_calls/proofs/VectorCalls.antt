@@ -20,7 +20,7 @@ use Rattle.guest_kernel.specs.Parts.{all_in_reach, total}
 use Rattle.guest_calls.specs.Vectors.{filled_parts, parts, parts_at, read_events, readv, readv_bytes, readv_effect, readv_parts, readv_tests, writev, writev_count, writev_effect, writev_parts, writev_tests}
 use Rattle.guest_calls.proofs.FileCalls.{advanced_able, advanced_steady, min_few}
 use Rattle.guest_kernel.proofs.Room.{fill_few, read_few}
-use Rattle.guest_calls.proofs.Lawful.{AreFailed, AreFair, IsKept, calm_lawful, carried_fair, copies_append, fill_copies, fill_weight, fill_words, filled_kept, kept, lawful_carries, lawful_unless, read_copies, read_weight, read_words, words-append}
+use Rattle.guest_calls.proofs.Lawful.{AreFailed, AreFair, IsKept, calm_lawful, carried_fair, copies_append, fill_copies, fill_weight, fill_words, filled_kept, kept, lawful_carries, lawful_unless, read_copies, read_weight, read_words, readv_carries, words-append, writev_carries}
 use Rattle.guest_calls.proofs.PartLists.{length_carried, total_carried}
 use Rattle.guest_kernel.proofs.Reach.{readable_end, writable_end}
 
@@ -163,7 +163,7 @@ readv_is_lawful c is =
     lawful_carries c (Back n) (advanced file (arg c 0) n c.kernel) (filled_parts (readv_parts c) (readv_bytes c) read) tt
     (advanced_steady file (arg c 0) n c.kernel) (λ goes. advanced_able file (arg c 0) n c.kernel c.tid)
     (parts_kept c (readv_parts c) (readv_bytes c) read (kept c _))
-    (carried_fair c 65 n (filled_parts (readv_parts c) (readv_bytes c) read).events is refl
+    (carried_fair c n (filled_parts (readv_parts c) (readv_bytes c) read).events (readv_carries c is all)
     (readv_fair c.tid (arg c 1) (arg c 2) (readv_parts c) (readv_bytes c) read
     (few_of (arg c 2) all.1.0) (length_carried n (parts c) ∙ length_parts c.memory (arg c 1) (arg c 2)) refl
     (filled_copies c.memory c.tid (readv_parts c) (readv_bytes c) read
@@ -180,7 +180,7 @@ writev_is_lawful c is =
       able = λ can goes. can;
       held = λ q some. some;
       free = λ free. free;
-      fair = carried_fair c 66 (writev_count c) (writev_effect c).guest.events is refl
+      fair = carried_fair c (writev_count c) (writev_effect c).guest.events (writev_carries c is all)
           (writev_fair c.tid (arg c 1) (arg c 2) (writev_count c) (writev_parts c) (few_of (arg c 2) all.1.0)
           (length_carried (writev_count c) (parts c) ∙ length_parts c.memory (arg c 1) (arg c 2))
           (total_carried (writev_count c) (parts c)) (min_few (total (parts c))) (table_copies c all.1.1.0)

@@ -1,5 +1,5 @@
 -- What a system call keeps, whatever it does.
-use Rattle.std.specs.Prelude.{◌≡◌, ◌≢◌, ℕ, ◌<◌, ◌≤◌, ◌+◌, ◌*◌, ◌%◌, ◌^◌, Bool, true, false, not, ◌&&◌, ◌==◌, nat_le, List, [], ◌∷◌, ◌++◌, length, map, filter, is_some, None, if◌then◌else◌}
+use Rattle.std.specs.Prelude.{◌≡◌, ◌≢◌, ℕ, ◌<◌, ◌≤◌, ◌+◌, ◌*◌, ◌%◌, ◌^◌, Bool, true, false, not, ◌&&◌, ◌||◌, ◌==◌, List, [], ◌∷◌, ◌++◌, length, map, filter, is_some, is_none, None, if◌then◌else◌}
 use Rattle.guest_words.specs.declared.limits.TheConstants.{SYSCALL_EVENTS}
 use Rattle.trace_model.specs.declared.event_kinds.Event.{Event}
 use Rattle.trace_model.specs.declared.event_kinds.Event.TheVariants.{Read, Fill}
@@ -9,9 +9,10 @@ use Rattle.guest_kernel.specs.declared.answer.Answer.{Answer}
 use Rattle.guest_kernel.specs.declared.answer.Answer.TheVariants.{Back, ThreadEnd, ProcessEnd, Born}
 use Rattle.guest_kernel.specs.Threads.{is_full}
 use Rattle.guest_kernel.specs.Kernel.{KernelState, can_run, lives}
+use Rattle.guest_calls.specs.Files.{read_tests, write_tests}
 use Rattle.guest_calls.specs.Pages.{IsBreakFree}
-use Rattle.guest_calls.specs.Results.{Syscall, SyscallResult, number}
-use Rattle.guest_calls.specs.Vectors.{part_limit}
+use Rattle.guest_calls.specs.Results.{Syscall, SyscallResult, first_answer, number}
+use Rattle.guest_calls.specs.Vectors.{part_limit, readv_tests, writev_tests}
 
 -- ---- copies
 -- the event is a copy of words of memory, from it for the thread or to it
@@ -34,11 +35,23 @@ abbrev pub words_copied : List Event → ℕ
 words_copied [] = 0
 words_copied (e ∷ events) = words_copied events + count_copied e
 
--- read(2) 63, write(2) 64, readv(2) 65 and writev(2) 66 carry the bytes whose number they answer; no other call carries any.
--- One that is refused copies nothing, though its answer, 2 ^ 32 less the number of the error, counts here.
-abbrev pub bytes_carried : ℕ → Answer → ℕ
-bytes_carried call (Back value) = if nat_le 63 call && nat_le call 66 then value else 0
-bytes_carried call answer = 0
+-- none of the tests before an effect holds
+abbrev pub passes : List (Bool × ℕ) → Bool
+passes tests = is_none (first_answer tests)
+
+-- the call with this number is read(2) 63, write(2) 64, readv(2) 65 or writev(2) 66, and none of its tests refuses it
+unfoldable pub carries : ℕ → Syscall → Bool
+carries call c =
+    (call == 63 && passes (read_tests c))
+    || ((call == 64 && passes (write_tests c))
+    || ((call == 65 && passes (readv_tests c))
+    || (call == 66 && passes (writev_tests c))))
+
+-- Such a call carries the bytes whose number it answers. One that is refused carries none: its answer, 2 ^ 32 less the number of
+-- the error, counts no bytes. No other call carries any.
+abbrev pub bytes_carried : Syscall → Answer → ℕ
+bytes_carried c (Back value) = if carries (number c) c then value else 0
+bytes_carried c answer = 0
 
 -- ---- threads
 -- a new thread is one that there was room for, and has the next number, which is then the last one given; without one that stays
@@ -88,7 +101,7 @@ pub record IsLawful (c : Syscall) (r : SyscallResult) : Type 0 where
   -- the copies touch at most the words that the bytes carried and the longest table of parts, of eight bytes each, fill, and
   -- two more for each event; what else a call copies, such as a path or a time, has fewer bytes than that table
   pub words : 4 * words_copied r.guest.events ≤
-      bytes_carried (number c) r.answer + 8 * part_limit + 8 * length r.guest.events
+      bytes_carried c r.answer + 8 * part_limit + 8 * length r.guest.events
   -- where no page from the break up to the limit is mapped, none is afterwards
   pub break_free :
       IsBreakFree c.memory c.kernel.program_break → IsBreakFree r.guest.memory r.kernel.program_break

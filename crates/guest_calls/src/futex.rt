@@ -71,7 +71,7 @@ fn is_clock_unfit(caller: &Caller, operation: Operation) -> bool
 }
 
 // Whether the place to move to is no multiple of 4.
-fn is_target_odd(caller: &Caller, operation: Operation) -> bool
+fn is_target_unaligned(caller: &Caller, operation: Operation) -> bool
     ensures { result ≡ (is_requeue operation
         && not (slice_index caller.now.cpu.regs 14 % 4 == 0)) }
 {
@@ -111,7 +111,7 @@ fn refusal(memory: &GuestMemory, caller: &Caller, operation: Operation) -> Optio
     if caller.argument(0) % 4 != 0 {
         return Some(EINVAL);
     }
-    if is_target_odd(caller, operation) {
+    if is_target_unaligned(caller, operation) {
         return Some(EINVAL);
     }
     if is_bitset_empty(caller, operation) {
