@@ -6,7 +6,7 @@ use Rattle.std.proofs.lemmas.List.{length-map, length-take-le}
 use Rattle.std.proofs.lemmas.Bool.Decides.{nat_tests}
 use Rattle.guest_words.specs.ByThread.{value_of}
 use Rattle.trace_model.specs.declared.event_kinds.Event.{Event}
-use Rattle.trace_model.specs.declared.event_kinds.Event.TheVariants.{Read, Write, Ret, Start}
+use Rattle.trace_model.specs.declared.event_kinds.Event.TheVariants.{Step, Read, Write, Fill, Ret, Start}
 use Rattle.trace_model.specs.declared.slow_profile.Done.{Done}
 use Rattle.std.specs.List.{position_or_len}
 use Rattle.trace_model.specs.declared.activations.Activation.{Activation}
@@ -18,7 +18,7 @@ use Rattle.trace_model.specs.Profile.{done_of}
 use Rattle.shadow_pages.specs.Pages as pages
 use Rattle.shadow_pages.specs.Pages.{AreCovered, Page, page_of, stamp_at, stamp_in}
 use Rattle.stamp_renumber.specs.Threads.{Stamped, all_starts, calls_of, pages_of}
-use Rattle.shadow_core.specs.Applying.{AreInUse, IsTaken, DoesNotAllocate, access_of}
+use Rattle.shadow_core.specs.Applying.{AreInUse, IsTaken, DoesNotAllocate, NeedsNoPage, access_of}
 use Rattle.stamp_table.specs.Allows.{is_too_deep}
 use Rattle.stamp_table.proofs.Deep.{deep_does_not_fit}
 use Rattle.stamp_table.specs.Past.{call_of}
@@ -101,15 +101,24 @@ own_covered : (s : State) (t first count : ℕ) → AreInUse (access_of (table_o
 own_covered s t first count used w low high =
     used_covered (pages_of s.live.threads t) w (subst (λ n. 0 < n) (access_as s.live.threads t w) (used w (in_range first count w low high)))
 
-module _ (s : State) (e : Event) (t first count held capacity : ℕ) where
-  pub read_covered : e ≡ Read t first count → DoesNotAllocate e (table_of_state s) held capacity → AreCovered (pages_of s.live.threads t) first count
-  read_covered is needs = own_covered s t first count (subst (λ k. DoesNotAllocate k (table_of_state s) held capacity) is needs)
+module _ (s : State) (e : Event) (t first count : ℕ) where
+  pub read_covered : e ≡ Read t first count → NeedsNoPage e (table_of_state s) → AreCovered (pages_of s.live.threads t) first count
+  read_covered is needs = own_covered s t first count (subst (λ k. NeedsNoPage k (table_of_state s)) is needs)
 
-  pub own_written : e ≡ Write t first count → DoesNotAllocate e (table_of_state s) held capacity → AreCovered (pages_of s.live.threads t) first count
-  own_written is needs = own_covered s t first count (subst (λ k. DoesNotAllocate k (table_of_state s) held capacity) is needs).0
+  pub own_written : e ≡ Write t first count → NeedsNoPage e (table_of_state s) → AreCovered (pages_of s.live.threads t) first count
+  own_written is needs = own_covered s t first count (subst (λ k. NeedsNoPage k (table_of_state s)) is needs).0
 
-  pub all_written : e ≡ Write t first count → DoesNotAllocate e (table_of_state s) held capacity → AreCovered s.writes first count
-  all_written is needs = are_covered s.writes first count (subst (λ k. DoesNotAllocate k (table_of_state s) held capacity) is needs).1
+  pub all_written : e ≡ Write t first count → NeedsNoPage e (table_of_state s) → AreCovered s.writes first count
+  all_written is needs = are_covered s.writes first count (subst (λ k. NeedsNoPage k (table_of_state s)) is needs).1
+
+-- what needs no memory needs no page
+pub needs_no_page : (e : Event) (table : Table) (held capacity : ℕ) → DoesNotAllocate e table held capacity → NeedsNoPage e table
+needs_no_page (Step t) table held capacity needs = needs
+needs_no_page (Ret t target) table held capacity needs = tt
+needs_no_page (Read t first count) table held capacity needs = needs
+needs_no_page (Write t first count) table held capacity needs = needs
+needs_no_page (Fill first count) table held capacity needs = needs
+needs_no_page _ table held capacity needs = absurd needs
 
 -- ---- Room for what a return ends.
 -- the open calls of a thread of the table

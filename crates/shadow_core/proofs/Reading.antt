@@ -56,7 +56,7 @@ with_twice (x ∷ xs) t a b = by (x.0 == t) refl (with_twice xs t a b)
     by true is later = ap (λ c. cond c ((x.0, b) ∷ xs) ((x.0, a) ∷ with_value xs t b)) is
     by false is later = ap (λ c. cond c ((x.0, b) ∷ with_value xs t a) (x ∷ with_value (with_value xs t a) t b)) is ∙ ap (λ (ys : List (ℕ × Stamped)). x ∷ ys) later
 
-with_found : (xs : List (ℕ × Stamped)) (t : ℕ) (new : Stamped) → is_some (value_of xs t) ≡ true → value_of (with_value xs t new) t ≡ Some new
+pub with_found : (xs : List (ℕ × Stamped)) (t : ℕ) (new : Stamped) → is_some (value_of xs t) ≡ true → value_of (with_value xs t new) t ≡ Some new
 with_found xs t new lives = by (value_of xs t) refl lives
   where
     by : (o : Option Stamped) → value_of xs t ≡ o → is_some o ≡ true → value_of (with_value xs t new) t ≡ Some new

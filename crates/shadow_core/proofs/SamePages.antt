@@ -16,6 +16,10 @@ use Rattle.shadow_core.specs.Private.Reading.{IsChanged}
 use Rattle.shadow_core.specs.State.{State}
 use Rattle.shadow_core.proofs.Profiled.{there_too}
 
+-- the same profiler
+pub same_still : {old new : State} → new ≡ old → HasSamePages old new
+same_still {old = old} is = subst (λ (k : State). HasSamePages old k) (sym is) (record { writes = λ w. refl; marks = λ w. refl; accesses = λ t w. refl })
+
 -- the threads' pages hold the same words
 abbrev pub AlikeIn : List (ℕ × Stamped) → List (ℕ × Stamped) → Type 0
 AlikeIn old new = (t w : ℕ) → covers (pages_of new t) w ≡ covers (pages_of old t) w
@@ -42,11 +46,15 @@ calls_alike live now t k lives is u w =
     let new : Stamped = record { frames = frames_of live.threads t; spare = spare_of live.threads t; pages = pages_of live.threads t; calls = k } in
     ap (λ (l : Live). covers (pages_of l.threads u) w) is ∙ with_alike live.threads t new lives (λ w. refl) u w
 
--- a thread changed, whose pages hold the same words
+-- a thread has other frames and calls, and pages that hold the same words
+pub stamped_alike : (old new : List (ℕ × Stamped)) (t : ℕ) (frames : List Frame) (pages : List Page) → is_some (value_of old t) ≡ true
+    → ((w : ℕ) → covers pages w ≡ covers (pages_of old t) w) → new ≡ with_value old t (stamped new t frames pages) → AlikeIn old new
+stamped_alike old new t frames pages lives alike is u w =
+    ap (λ xs. covers (pages_of xs u) w) is ∙ with_alike old t (stamped new t frames pages) lives alike u w
+
 pub changed_alike : (old new : Live) (t : ℕ) (frames : List Frame) (pages : List Page) → is_some (value_of old.threads t) ≡ true → IsChanged old new t frames pages
     → ((w : ℕ) → covers pages w ≡ covers (pages_of old.threads t) w) → AlikeIn old.threads new.threads
-changed_alike old new t frames pages lives changed alike u w =
-    ap (λ xs. covers (pages_of xs u) w) changed.threads ∙ with_alike old.threads t (stamped new.threads t frames pages) lives alike u w
+changed_alike old new t frames pages lives changed alike = stamped_alike old.threads new.threads t frames pages lives alike changed.threads
 
 -- a thread that is not in one of two lists of the same threads is not in the other
 pub none_by : {A B : Type 0} (old : List (ℕ × A)) (new : List (ℕ × B)) → numbers new ≡ numbers old → (t : ℕ) → value_of old t ≡ None → value_of new t ≡ None

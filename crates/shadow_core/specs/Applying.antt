@@ -3,7 +3,7 @@ use Rattle.std.specs.Prelude.{◌≡◌, ℕ, ◌+◌, ◌<◌, ◌≤◌, true,
 use Rattle.std.specs.Option.{option_map_or}
 use Rattle.guest_words.specs.ByThread.{value_of}
 use Rattle.trace_model.specs.declared.event_kinds.Event.{Event}
-use Rattle.trace_model.specs.declared.event_kinds.Event.TheVariants.{Step, Read, Write, Fill, Ret}
+use Rattle.trace_model.specs.declared.event_kinds.Event.TheVariants.{Step, Read, Write, Fill, Start, End, Ret}
 use Rattle.trace_model.specs.declared.slow_profile.Done.{Done}
 use Rattle.trace_model.specs.Depth.{is_within}
 use Rattle.trace_model.specs.Events.{covers}
@@ -30,7 +30,7 @@ pub record HasSamePages (old new : State) : Type 0 where
   pub marks : (w : ℕ) → pages.covers new.marks w ≡ pages.covers old.marks w
   pub accesses : (t w : ℕ) → pages.covers (pages_of new.live.threads t) w ≡ pages.covers (pages_of old.live.threads t) w
 
--- ---- Events that need no memory.
+-- ---- Events that need no page, and events that need no memory.
 -- the stamps of a thread's accesses
 abbrev pub access_of : Table → ℕ → ℕ → ℕ
 access_of table t = option_map_or (λ thread. thread.access) (value_of table.threads t) (λ l. 0)
@@ -39,7 +39,17 @@ access_of table t = option_map_or (λ thread. thread.access) (value_of table.thr
 abbrev pub AreInUse : (ℕ → ℕ) → ℕ → ℕ → Type 0
 AreInUse stamps first count = (l : ℕ) → covers first count l ≡ true → 0 < stamps l
 
--- A step needs none; nor does a return where the list of records, which holds `held`, has room for what it ends; nor an access
+-- A step, a call and a return need no page of stamps, nor does an access of words that are in use. Of a thread's start and end
+-- nothing is said here: its pages come with its accesses, and are freed with it.
+abbrev pub NeedsNoPage : Event → Table → Type 0
+NeedsNoPage (Read t first count) table = AreInUse (access_of table t) first count
+NeedsNoPage (Write t first count) table = AreInUse (access_of table t) first count × AreInUse table.write first count
+NeedsNoPage (Fill first count) table = AreInUse table.write first count
+NeedsNoPage (Start t entry) table = ⊥
+NeedsNoPage (End t) table = ⊥
+NeedsNoPage _ table = Unit {0}
+
+-- A step needs no memory; nor does a return where the list of records, which holds `held`, has room for what it ends; nor an access
 -- of words that are in use.
 abbrev pub DoesNotAllocate : Event → Table → ℕ → ℕ → Type 0
 DoesNotAllocate (Step t) table held capacity = Unit {0}

@@ -9,7 +9,7 @@ use Rattle.shadow_stack.specs.Costs.{is_old}
 use Rattle.shadow_stack.specs.Frames.{starts_of}
 use Rattle.shadow_pages.specs.Pages.{stamp_at}
 use Rattle.stamp_renumber.specs.Costs.{stamps_in, tick_cost}
-use Rattle.stamp_renumber.specs.Threads.{Live, all_starts, calls_of, frames_of, pages_of}
+use Rattle.stamp_renumber.specs.Threads.{Live, calls_of, frames_of, pages_of}
 use Rattle.stamp_table.specs.Ticks.{ticks}
 use Rattle.shadow_core.specs.State.{State}
 
@@ -22,11 +22,11 @@ abbrev pub old_words : Live → ℕ → ℕ → ℕ → ℕ
 old_words live t first count =
     count_by (λ w. is_old (starts_of (frames_of live.threads t)) (stamp_at (pages_of live.threads t) w)) (range_with_len first count)
 
--- A return looks at the calls that it ends. Where it ends none, it may look at all that are open.
+-- A return looks at the calls that it ends. Where it ends none, it may look at all that the thread has open.
 abbrev pub calls_seen : Live → ℕ → ℕ → ℕ
 calls_seen live t target =
     let ended = count_returned target (map (λ c. c.back) (calls_of live.threads t).list) in
-    if ended == 0 then length (all_starts live.threads) else ended
+    if ended == 0 then length (frames_of live.threads t) else ended
 
 -- At most this many without the tick: a constant, and a constant for each word, `digits` for each old word that is read, and a constant
 -- for each activation that ends.

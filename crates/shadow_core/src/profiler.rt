@@ -11,7 +11,7 @@ ghost use Rattle.stamp_renumber.specs.Costs.{tick_cost};
 ghost use Rattle.stamp_renumber.specs.Threads.{all_starts, calls_of, pages_of};
 ghost use Rattle.shadow_core.specs.declared.apply_error.ApplyError.TheVariants.{Memory, TooDeep};
 ghost use Rattle.shadow_core.specs.Accesses.{IsAccessTo, IsLatestOf};
-ghost use Rattle.shadow_core.specs.Applying.{HasSamePages, IsTaken, DoesNotAllocate};
+ghost use Rattle.shadow_core.specs.Applying.{HasSamePages, IsTaken, DoesNotAllocate, NeedsNoPage};
 ghost use Rattle.shadow_core.specs.Costs.{CostsAtMost, calls_seen};
 ghost use Rattle.shadow_core.specs.Private.Reading.{IsReadWithin};
 ghost use Rattle.stamp_table.specs.Allows.{is_too_deep};
@@ -254,6 +254,7 @@ impl<S: Lanes> Profiler<S> {
         ensures stands { result ≡ true → (past : List Event) → StandsFor S.MAX self.old past
             → IsTaken S.MAX (Call tid entry back) (with_steps tid steps past) self.new [] [] }
         ensures same { result ≡ false → self.new ≡ self.old }
+        ensures pages { HasSamePages self.old self.new }
     {
         if !is_running(self.last, tid) {
             return false;
@@ -573,6 +574,7 @@ impl<S: Lanes> Profiler<S> {
             ≡ table_after (bounded_tick S.MAX) (Call tid entry back) (table_of_state self.old)) }
         ensures refused { OnErr result (table_of_state self.new ≡ table_of_state self.old) }
         ensures cost { CostsAtMost S.MAX (Call tid entry back) self.old steps.old steps.new }
+        ensures pages { HasSamePages self.old self.new }
     {
         steps.count(3); // the thread twice, and the start of its frame
         if self.counter < S::MAX && self.threads.has_room(tid) {
@@ -600,6 +602,7 @@ impl<S: Lanes> Profiler<S> {
             ≡ table_after (bounded_tick S.MAX) (Call tid entry back) (table_of_state self.old)) }
         ensures refused { OnErr result (table_of_state self.new ≡ table_of_state self.old) }
         ensures cost { steps.new ≤ steps.old + 4 + tick_cost S.MAX self.old.counter self.old.live self.old.writes }
+        ensures pages { HasSamePages self.old self.new }
     {
         steps.count(4); // the thread three times, and the start of its frame
         self.threads.reserve(tid)?;
@@ -728,9 +731,9 @@ impl<S: Lanes> Profiler<S> {
         ensures cost { steps.new ≤ steps.old + 2 + 4 * calls_seen self.old.live tid target }
     {
         let ended = self.threads.ending(tid, target);
-        // The thread, and the calls that are looked at, twice where the list has room.
+        // The thread twice, and the calls that are looked at, twice where the list has room.
         let seen = if ended == 0 {
-            self.threads.frame_count()
+            self.threads.frames(tid).depth()
         } else {
             ended
         };
@@ -983,8 +986,7 @@ impl<S: Lanes> Profiler<S> {
         ensures kept { OnErr result (done.new.items ≡ done.old.items) }
         ensures no_allocation { DoesNotAllocate e (table_of_state self.old) (vec_len done.old)
             (vec_capacity done.old) → IsOk result }
-        ensures pages { DoesNotAllocate e (table_of_state self.old) (vec_len done.old)
-            (vec_capacity done.old) → HasSamePages self.old self.new }
+        ensures pages { NeedsNoPage e (table_of_state self.old) → HasSamePages self.old self.new }
         ensures cost { CostsAtMost S.MAX e self.old steps.old steps.new }
     {
         match e {
@@ -1004,7 +1006,7 @@ impl<S: Lanes> Profiler<S> {
 
     /// Takes the next event of the trace, and adds to the list what is recorded of the activations that it ends, the
     /// innermost first. An event that begins an activation too many is refused before any memory is allocated. After a refusal
-    /// all is as before. An event that doesn't allocate adds no page of stamps.
+    /// all is as before. An event that needs no page of stamps adds none.
     #[inline(always)]
     pub fn apply(&mut self, e: Event, done: &mut Vec<Done>) -> Result<(), ApplyError>
         requires { MayTake (StandsFor S.MAX) self.old e }
@@ -1023,8 +1025,7 @@ impl<S: Lanes> Profiler<S> {
         ensures kept { OnErr result (done.new.items ≡ done.old.items) }
         ensures no_allocation { DoesNotAllocate e (table_of_state self.old) (vec_len done.old)
             (vec_capacity done.old) → IsOk result }
-        ensures pages { DoesNotAllocate e (table_of_state self.old) (vec_len done.old)
-            (vec_capacity done.old) → HasSamePages self.old self.new }
+        ensures pages { NeedsNoPage e (table_of_state self.old) → HasSamePages self.old self.new }
     {
         self.apply_with::<Brand>(e, done, Blank::new(1))
     }
@@ -1056,8 +1057,7 @@ impl<S: Lanes> Profiler<S> {
         ensures kept { OnErr result (done.new.items ≡ done.old.items) }
         ensures no_allocation { DoesNotAllocate e (table_of_state self.old) (vec_len done.old)
             (vec_capacity done.old) → IsOk result }
-        ensures pages { DoesNotAllocate e (table_of_state self.old) (vec_len done.old)
-            (vec_capacity done.old) → HasSamePages self.old self.new }
+        ensures pages { NeedsNoPage e (table_of_state self.old) → HasSamePages self.old self.new }
     {
         let mut steps = Steps::<L>::new(blank);
         self.apply_counted(e, done, &mut steps)
@@ -1089,8 +1089,7 @@ impl<S: Lanes> Profiler<S> {
         ensures kept { OnErr result (done.new.items ≡ done.old.items) }
         ensures no_allocation { DoesNotAllocate e (table_of_state self.old) (vec_len done.old)
             (vec_capacity done.old) → IsOk result }
-        ensures pages { DoesNotAllocate e (table_of_state self.old) (vec_len done.old)
-            (vec_capacity done.old) → HasSamePages self.old self.new }
+        ensures pages { NeedsNoPage e (table_of_state self.old) → HasSamePages self.old self.new }
         ensures cost { CostsAtMost S.MAX e self.old steps.old steps.new }
     {
         if self.is_too_deep(&e) {

@@ -1,16 +1,19 @@
 use Rattle.std.proofs.Common.{◌≡◌, ◌∙◌, ◌+◌, ◌*◌, ◌<◌, [], All, Some, ap, arith, false, length, refl, subst, sym}
-use Rattle.std.specs.Prelude.{nat_lt}
+use Rattle.std.specs.Prelude.{is_some, nat_lt}
 use Rattle.trace_model.specs.declared.event_kinds.Event.TheVariants.{Call}
 use Rattle.trace_model.specs.Depth.{is_within}
 use Rattle.trace_model.specs.Observing.{MayTakeAfter}
 use Rattle.shadow_stack.specs.Frames.{starts_of}
-use Rattle.stamp_renumber.specs.Threads.{all_starts, frames_of}
+use Rattle.stamp_renumber.specs.Counted.{steps_added, with_calls}
+use Rattle.stamp_renumber.specs.Threads.{all_starts, calls_of, frames_of}
 use Rattle.stamp_table.specs.Renewal.{bounded_tick}
 use Rattle.stamp_table.specs.Ticks.{table_after, table_after_steps}
 use Rattle.shadow_core.specs.Profiling.{StandsFor}
 use Rattle.shadow_core.specs.State.{State, stepped, table_of_state}
 use Rattle.shadow_core.proofs.After.{above_all, alive_after, call_made, call_shallow, counts_fit, mid_made, starts_fit, taken_after}
 use Rattle.shadow_core.proofs.Profiled.{lives_here}
+use Rattle.shadow_core.proofs.Reading.{with_found}
+use Rattle.shadow_core.proofs.SamePages.{calls_alike, seen_same, stamped_alike}
 use Rattle.shadow_core.proofs.Settled.{whole_call}
 use Rattle.shadow_core.proofs.profiler.Profiler.call_after.Goals as goal
 
@@ -90,6 +93,21 @@ returns-clause-stands g c = λ yes past stands.
     (call_made g.S.Stamp.MAX c.args.tid c.args.steps c.args.entry c.args.back s may c.requires.some runs low
     (g.S.Stamp.number_of c.from_number-now.result) c.begin_after.new.self number (c.if-not-begin_after.ensures.begun refl))
     refl past (subst (λ (k : State). StandsFor g.S.Stamp.MAX k past) (sym c.self.view_is) stands)
+
+pub returns-clause-pages : goal.returns-clause-pages
+returns-clause-pages g c =
+    let t = c.args.tid in
+    let s : State = record { counter = c.self.inside.counter; writes = c.self.inside.writes.pages; marks = c.self.inside.marks.pages; live = c.self.inside.threads; last = c.self.inside.last; greatest = c.self.inside.greatest; weight = c.self.inside.weight; renumbered = c.self.inside.renumbered; settled = c.self.inside.settled } in
+    let may = subst (λ (k : State). MayTakeAfter (StandsFor g.S.Stamp.MAX) (is_within g.S.Stamp.MAX) k t c.args.steps (Call t c.args.entry c.args.back)) (sym c.self.view_is) c.requires.may in
+    let lives = lives_here s t (alive_after g.S.Stamp.MAX t c.args.steps (Call t c.args.entry c.args.back) s may c.requires.some) in
+    let made = steps_added c.args.steps (calls_of s.live.threads t) in
+    seen_same c.self.view_is (record {
+      writes = λ w. refl;
+      marks = λ w. refl;
+      accesses = λ u w.
+          stamped_alike (with_calls s.live t made).threads c.begin_after.new.self.threads t _ _ (ap is_some (with_found s.live.threads t _ lives)) (λ v. refl) (c.if-not-begin_after.ensures.begun refl).threads u w
+          ∙ calls_alike s.live (with_calls s.live t made) t made lives refl u w;
+    })
 
 pub invariant_of-self-2 : goal.invariant_of-self-2
 invariant_of-self-2 g c =

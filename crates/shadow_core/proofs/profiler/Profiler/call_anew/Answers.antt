@@ -1,4 +1,4 @@
-use Rattle.std.proofs.Common.{◌≡◌, ◌∙◌, ℕ, ◌<◌, ap, sym, subst, All, ◌+◌, ◌*◌, List, length, refl, arith, cond}
+use Rattle.std.proofs.Common.{true, ◌≡◌, ◌∙◌, ℕ, ◌<◌, ap, sym, subst, All, ◌+◌, ◌*◌, List, length, refl, arith, cond}
 use Rattle.trace_model.specs.declared.event_kinds.Event.TheVariants.{Call}
 use Rattle.shadow_stack.specs.Frames.{starts_of}
 use Rattle.stamp_renumber.specs.Threads.{frames_of, Live, Stamped, pages_of, stamped}
@@ -11,6 +11,7 @@ use Rattle.shadow_core.proofs.Profiled.{alive_here, lives_here, on_err}
 use Rattle.std.specs.Prelude.{nat_lt, sum_by}
 use Rattle.stamp_renumber.specs.Costs.{stamps_in, stamps_of, tick_cost}
 use Rattle.shadow_core.proofs.Costs.{stamps_with}
+use Rattle.shadow_core.proofs.SamePages.{advanced_alike, seen_same, stamped_alike}
 use Rattle.shadow_core.proofs.Settled.{whole_anew, whole_as_before}
 use Rattle.shadow_core.proofs.profiler.Profiler.call_anew.Goals as goal
 
@@ -82,6 +83,30 @@ returns-clause-table g c =
     called g.S.Stamp.MAX c.args.tid _ a.was c.reserve.new.self _ a.has roomy c.advance.ensures.advanced
     c.args.entry c.args.back (g.S.Stamp.number_of c.from_number-now.result) c.begin.new.self number begun.threads begun.list begun.counts
     ∙ ap (λ (k : State). table_after (bounded_tick g.S.Stamp.MAX) (Call c.args.tid c.args.entry c.args.back) (table_of_state k)) c.self.view_is
+
+pub returns-in_err-reserve-clause-pages : goal.returns-in_err-reserve-clause-pages
+returns-in_err-reserve-clause-pages g c =
+    let lives = lives_here _ c.args.tid (alive_here g.S.Stamp.MAX (Call c.args.tid c.args.entry c.args.back) c.args.tid _ _ c.self.view_is c.requires c.requires.formed.0.0) in
+    seen_same c.self.view_is (record {
+      writes = λ w. refl;
+      marks = λ w. refl;
+      accesses = stamped_alike c.self.inside.threads.threads c.reserve.new.self.threads c.args.tid _ _ lives (λ w. refl) c.in_err-reserve.ensures.threads;
+    })
+
+pub returns-clause-pages : goal.returns-clause-pages
+returns-clause-pages g c =
+    let t = c.args.tid in
+    let a = alive_here g.S.Stamp.MAX (Call t c.args.entry c.args.back) t _ _ c.self.view_is c.requires c.requires.formed.0.0 in
+    let roomy : IsRoomy c.self.inside.threads t c.reserve.new.self = record { threads = c.in_ok-reserve.ensures.threads; list = c.in_ok-reserve.ensures.list; counts = c.in_ok-reserve.ensures.counts } in
+    let lives = begin_lives g.S.Stamp.MAX t _ a.was c.reserve.new.self _ a.has roomy c.advance.ensures.advanced in
+    seen_same c.self.view_is (record {
+      writes = c.advance.ensures.advanced.covered;
+      marks = λ w. refl;
+      accesses = λ u w.
+          stamped_alike c.advance.new.threads.threads c.begin.new.self.threads t _ _ lives (λ v. refl) c.begin.ensures.threads u w
+          ∙ advanced_alike g.S.Stamp.MAX true _ _ c.advance.ensures.advanced u w
+          ∙ stamped_alike c.self.inside.threads.threads c.reserve.new.self.threads t _ _ (lives_here _ t a) (λ v. refl) roomy.threads u w;
+    })
 
 pub returns-clause-cost : goal.returns-clause-cost
 returns-clause-cost g c =

@@ -20,6 +20,13 @@ ending-ended-requires g c =
     let may = may_end g.S.Stamp.MAX t (Ret t c.args.target) _ _ c.self.view_is c.requires c.requires.formed.0.0 in
     may.can.lives
 
+pub frames-requires : goal.frames-requires
+frames-requires g c =
+    let t = c.args.tid in
+    let may = may_end g.S.Stamp.MAX t (Ret t c.args.target) _ _ c.self.view_is c.requires c.requires.formed.0.0 in
+    let can : MayEndIn c.ending-ended.new.self t = subst (λ (l : Live). MayEndIn l t) (sym c.ending-ended.ensures.same) may.can in
+    can.lives
+
 pub end_calls-requires-clause-lives : goal.end_calls-requires-clause-lives
 end_calls-requires-clause-lives g c =
     let t = c.args.tid in

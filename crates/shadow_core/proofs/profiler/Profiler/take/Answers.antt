@@ -1,23 +1,24 @@
 use Rattle.std.proofs.Common.{subst, sym}
 use Rattle.std.specs.Prelude.{vec_len}
 use Rattle.std.specs.Vec.{vec_capacity}
-use Rattle.shadow_core.proofs.Applied.{all_written, own_written, read_covered, returned_fits}
+use Rattle.shadow_core.proofs.Applied.{all_written, needs_no_page, own_written, read_covered, returned_fits}
 use Rattle.trace_model.specs.declared.event_kinds.Event.{Event}
 use Rattle.shadow_core.specs.Costs.{CostsAtMost}
+use Rattle.shadow_core.specs.State.{table_of_state}
 use Rattle.shadow_core.proofs.profiler.Profiler.take.Goals as goal
 
 pub returns-in-Read-clause-no_allocation : goal.returns-in-Read-clause-no_allocation
 returns-in-Read-clause-no_allocation g c = λ needs.
     let r = c.in-Read in
-    c.read.ensures.no_allocation (read_covered c.args.self.now c.args.e r.tid r.first r.count (vec_len c.args.done.now) (vec_capacity c.args.done.now) r.is needs)
+    let no_page = needs_no_page c.args.e (table_of_state c.args.self.now) (vec_len c.args.done.now) (vec_capacity c.args.done.now) needs in
+    c.read.ensures.no_allocation (read_covered c.args.self.now c.args.e r.tid r.first r.count r.is no_page)
 
 pub returns-in-Write-clause-no_allocation : goal.returns-in-Write-clause-no_allocation
 returns-in-Write-clause-no_allocation g c = λ needs.
     let w = c.in-Write in
-    let held = vec_len c.args.done.now in
-    let capacity = vec_capacity c.args.done.now in
-    c.write.ensures.no_allocation (own_written c.args.self.now c.args.e w.tid w.first w.count held capacity w.is needs)
-    (all_written c.args.self.now c.args.e w.tid w.first w.count held capacity w.is needs)
+    let no_page = needs_no_page c.args.e (table_of_state c.args.self.now) (vec_len c.args.done.now) (vec_capacity c.args.done.now) needs in
+    c.write.ensures.no_allocation (own_written c.args.self.now c.args.e w.tid w.first w.count w.is no_page)
+    (all_written c.args.self.now c.args.e w.tid w.first w.count w.is no_page)
 
 pub returns-in-Ret-clause-no_allocation : goal.returns-in-Ret-clause-no_allocation
 returns-in-Ret-clause-no_allocation g c = λ needs.
@@ -28,15 +29,13 @@ returns-in-Ret-clause-no_allocation g c = λ needs.
 pub returns-in-Read-clause-pages : goal.returns-in-Read-clause-pages
 returns-in-Read-clause-pages g c = λ needs.
     let r = c.in-Read in
-    c.read.ensures.pages (read_covered c.args.self.now c.args.e r.tid r.first r.count (vec_len c.args.done.now) (vec_capacity c.args.done.now) r.is needs)
+    c.read.ensures.pages (read_covered c.args.self.now c.args.e r.tid r.first r.count r.is needs)
 
 pub returns-in-Write-clause-pages : goal.returns-in-Write-clause-pages
 returns-in-Write-clause-pages g c = λ needs.
     let w = c.in-Write in
-    let held = vec_len c.args.done.now in
-    let capacity = vec_capacity c.args.done.now in
-    c.write.ensures.pages (own_written c.args.self.now c.args.e w.tid w.first w.count held capacity w.is needs)
-    (all_written c.args.self.now c.args.e w.tid w.first w.count held capacity w.is needs)
+    c.write.ensures.pages (own_written c.args.self.now c.args.e w.tid w.first w.count w.is needs)
+    (all_written c.args.self.now c.args.e w.tid w.first w.count w.is needs)
 
 pub returns-in-Step-clause-cost : goal.returns-in-Step-clause-cost
 returns-in-Step-clause-cost g c =
