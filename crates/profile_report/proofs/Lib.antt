@@ -11,3 +11,4 @@ pub mod OneText
 pub mod OneReading
 pub mod ToldContexts
 pub mod WorkedContexts
+pub mod Texts

@@ -1,23 +1,27 @@
 //! Writing a report.
-ghost use Rattle.std.specs.Prelude.{◌≡◌, ◌++◌, IfOk, OnOk};
+ghost use Rattle.std.specs.Prelude.{◌≡◌, ◌++◌, IfOk, OnErr, OnOk};
 ghost use Rattle.std.specs.List.{flat_map};
 ghost use Rattle.profile_report.specs.LineForms.{ended, point_line};
 ghost use Rattle.profile_report.specs.ReportText.{report_text, routine_text};
 
 use crate::line_text::{
-    push_end_line, push_first_line, push_number_line, push_point_line, push_routine_line,
+    or_cut_back, push_end_line, push_first_line, push_number_line, push_point_line,
+    push_routine_line,
 };
 use crate::{Report, Routine};
 use cost_points::Point;
 use std::alloc::{AllocError, Global};
 
-/// Appends a line for each point.
+/// Appends a line for each point. If it runs out of memory, the text stays as it was.
+#[tactic(auto, using(crate::proofs::Texts::keeps, crate::proofs::Texts::cut_back))]
 pub fn push_points(text: &mut Vec<u8>, points: &[Point]) -> Result<(), AllocError>
-    ensures { OnOk result (text.new.items
+    ensures ok { OnOk result (text.new.items
         ≡ text.old.items ++ flat_map (λ p. ended (point_line p)) points.now) }
+    ensures err { OnErr result (text.new.items ≡ text.old.items) }
 {
+    let length = text.len();
     for point in points {
-        push_point_line(text, *point)?;
+        or_cut_back(push_point_line(text, *point), text, length)?;
     }
     Ok(())
 }

@@ -5,6 +5,7 @@ use Rattle.context_tree.specs.Contexts.{contexts}
 use Rattle.context_tree.specs.Order.{IsInOrder}
 use Rattle.context_tree.specs.Trees.{TreeStandsFor}
 use Rattle.profile_report.specs.ContextText.{context_text}
+use Rattle.profile_report.specs.Private.Kept.{KeepsOn}
 use Rattle.profile_report.proofs.ToldContexts.{StandsAt}
 use Rattle.profile_report.proofs.context_writer.push_each.Given as goal
 
@@ -14,4 +15,5 @@ invariant-loop l = record {
   at : (past : List Event) (ordered : List (List ℕ)) → TreeStandsFor l.tree past → IsInOrder (contexts past) ordered → l.counter < length ordered → StandsAt (contexts past) ordered l.counter l.next;
   text : (past : List Event) (ordered : List (List ℕ)) → TreeStandsFor l.tree past → IsInOrder (contexts past) ordered →
       l.text.items ≡ l.initial.text.items ++ flat_map (context_text past) (take l.counter ordered);
+  kept : KeepsOn l.initial.text.items l.text.items;
 }
