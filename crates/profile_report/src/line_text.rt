@@ -10,8 +10,8 @@ use cost_points::{Point, Split};
 use guest_words::{Addr, FaultKind, Finish, Name, Tid, push_decimal};
 use std::alloc::AllocError;
 
-// Cuts the text back to its first bytes where a part of what follows them failed.
-pub fn or_cut_back(
+/// Cuts the text back to its first `length` bytes if what was pushed behind them failed.
+pub(crate) fn or_cut_back(
     pushed: Result<(), AllocError>,
     text: &mut Vec<u8>,
     length: usize,
