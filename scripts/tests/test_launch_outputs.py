@@ -82,6 +82,19 @@ class Outputs(Launched):
             with self.subTest(words=words):
                 self.assertEqual(self.run_words(words).returncode, 0)
 
+    def test_another_file_is_not_lost(self) -> None:
+        """Also where the launcher sees that the words need no look: standard input is no file and no pipe."""
+        for path, written in (("text", "a text\n"), ("bubble", ""), ("short", "apr")):
+            if written:
+                (self.folder / path).write_text(written)
+            before = (self.folder / path).read_bytes()
+            with self.subTest(path=path):
+                words = [str(self.launcher), "run", "-o", path, "link" if path != "bubble" else "text"]
+                environment = os.environ | {"FAKE_STORED": "aprof 2\n"}
+                done = subprocess.run(words, cwd=self.folder, env=environment, stdin=subprocess.DEVNULL, capture_output=True)
+                self.assertEqual(done.returncode == 4, path != "short")
+                self.assertEqual((self.folder / path).read_bytes() == before, path != "short")
+
     def test_words_stay(self) -> None:
         words = ["run", "-o", "r", "bubble", "=a b", "=*", "=", "=$x", "=\n"]
         self.assertEqual(self.run_words(words).stdout, f"words: {' '.join(words)}\n")
