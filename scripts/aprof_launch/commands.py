@@ -81,7 +81,7 @@ COMMANDS = (
     Command("run", "runs a program and stores its report", (*GUEST, RECORD, STAMPS, STATS, OUTPUT), IMAGE, WORDS),
     Command("contexts", "stores the report and who called whom", (*GUEST, STAMPS, OUTPUT), IMAGE, WORDS),
     Command("cache", "stores the misses of a cache, by routine", (*CACHE, *GUEST, OUTPUT), IMAGE, WORDS),
-    Command("trace", "stores each instruction, access and call", (*GUEST, OUTPUT), IMAGE, WORDS),
+    Command("trace", "stores each instruction, access and call, in a binary file", (*GUEST, OUTPUT), IMAGE, WORDS),
     Command("replay", "stores the report of a stored trace", (STAMPS, STATS, OUTPUT), "TRACE"),
     Command("demo", "profiles a built-in program of N routines, 1 to 40000", (), "N"),
 )

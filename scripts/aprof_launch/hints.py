@@ -72,7 +72,7 @@ class Hints:
             return []
         if not found:
             return []
-        opens = "; if it could not open a file: it can open those that stand behind it on the command line, in the same spelling"
+        opens = "; if it could not open a file: it can read those that stand behind it on the command line, in the same spelling, and write none"
         return [f"{self.image()} ended with exit code {found[1].decode()}{opens}"]
 
     def bad_words(self) -> list[str]:
@@ -103,13 +103,9 @@ class Hints:
         return [f"{self.image()}: {rows[0]}", *rows[1:], *self.run_together()] if rows else []
 
     def run_together(self) -> list[str]:
-        """What is said where `-output` was read as `-o utput`, or -o took the image, so that the word behind was taken for the
-        image."""
+        """What is said where `-output` was read as `-o utput`."""
         path = self.output
-        if path in RUN_TOGETHER:
-            return [f"(-o{path} was read as -o {path}: write -o PATH)"]
-        took = f"(-o takes the path of the report, and {path} is an executable: write -o PATH {path})"
-        return [took] if images.is_elf(path) else []
+        return [f"(-o{path} was read as -o {path}: write -o PATH)"] if path in RUN_TOGETHER else []
 
     def unwritten(self) -> list[str]:
         if sys.stdout is None:
@@ -196,7 +192,8 @@ class Hints:
         number = self.asked_again("run", "--budget", "1", "--schedule", path, "-o", "/dev/null", "--", self.image())
         if number is None:
             where = f"the thread of that line of {path} can't run at that point"
-            why = f"it waits, has ended or has not begun; the schedule was edited, or is of another run ({OTHER_RUNS})"
+            edited = "the schedule was edited, and then has to end with the last edited line"
+            why = f"it waits, has ended or has not begun; {edited}, or it is of another run ({OTHER_RUNS})"
             return [f"{where}: {why}; `--record` beside `--schedule` stores the turns that are taken", SO_FAR]
         try:
             with open(path, "rb") as file:

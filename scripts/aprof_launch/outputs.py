@@ -10,6 +10,7 @@ from collections.abc import Iterable
 from pathlib import Path
 
 from aprof_launch.commands import Use
+from aprof_launch.images import is_elf
 from aprof_launch.places import why_barred
 from aprof_launch.words import Words
 
@@ -66,7 +67,7 @@ def refusals(read: Words) -> Iterable[str]:
         if not why and any(is_same(path, other) for other in read.inputs()):
             why = f"it is {role(read, path)}"
         if not why and is_of_others(path, path == read.values.get("-o")):
-            why = f"it is no {what_is_stored(read, path)}, and is not overwritten"
+            why = f"it is no {what_is_stored(read, path)}, and is not overwritten{took_image(read, path)}"
         if why:
             yield f"aprof: cannot write {path}: {why}"
             return
@@ -76,6 +77,11 @@ def what_is_stored(read: Words, path: str) -> str:
     if path != read.values.get("-o"):
         return "recording"
     return "trace" if read.command and read.command.name == "trace" else "report"
+
+
+def took_image(read: Words, path: str) -> str:
+    """What is said where `-o` took an executable, so that the word behind it was taken for the image."""
+    return f"; -o takes the path of the report: write -o PATH {path}" if path == read.values.get("-o") and is_elf(path) else ""
 
 
 def is_of_others(path: str, is_output: bool) -> bool:

@@ -18,7 +18,7 @@ one longer run.
   show REPORT... ROUTINE...            a routine by doublings of its size; --plot draws it
   show --tree REPORT...                who calls whom, with the cost of each part (of `aprof contexts`)
   show --against OLD NEW               what has changed, the largest change first
-  show --fail-above 2.5 REPORT...      status 1 where a growth is above 2.5
+  show --fail-above 2.5 REPORT... ROUTINE...   status 1 where the growth of these is above 2.5
   show --page FILE REPORT...           a page for a browser
 """
 
@@ -93,7 +93,7 @@ def parser() -> argparse.ArgumentParser:
     add_choices(result)
     add("--image", metavar="IMAGE", help="the executable: for names, and the file and line where a routine begins")
     add("--against", metavar="OLD", help="compare with this earlier report, or a folder of them")
-    above = "status 1 if a growth, or what it rises to (^), exceeds FACTOR and is not marked ~"
+    above = "status 1 if a growth, or what it rises to (^), exceeds FACTOR and is not marked ~; with --against that of now"
     add("--fail-above", metavar="FACTOR", type=factor, help=above)
     add("--plot", action="store_true", help="a chart of the routine")
     add("--version", action="store_true", help="the version of aprof")

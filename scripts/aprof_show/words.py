@@ -132,17 +132,22 @@ def named(routines: Collection[Routine], name: str) -> list[Routine]:
     found = found or [routine for routine in routines if routine.is_at(name)]
     if not found:
         near = nearest(name, [routine.label for routine in routines])
-        raise Refused(f"no file and no routine called {name}" + (f"; there is {near}" if near else "") + " (--all lists them)")
+        there = "; there " + ("is " if len(near) == 1 else "are ") + listed(near) if near else ""
+        raise Refused(f"no file and no routine called {name}{there} (--all lists them)")
     return found
 
 
-def nearest(name: str, labels: list[str]) -> str:
-    """The label that was most likely meant: the shortest one that begins with the name, or has it, or else one that is spelled
+def nearest(name: str, labels: list[str]) -> list[str]:
+    """The labels that may have been meant: the shortest ones that begin with the name, or have it, or else one that is spelled
     nearly alike."""
-    having = [label for label in labels if name in label]
+    having = {label for label in labels if name in label}
     if having:
-        return min(having, key=lambda label: (not label.startswith(name), len(label)))
-    return next(iter(get_close_matches(name, labels, 1)), "")
+        return sorted(having, key=lambda label: (not label.startswith(name), len(label), label))[:5]
+    return get_close_matches(name, labels, 1)
+
+
+def listed(words: Sequence[str]) -> str:
+    return " and ".join([*([", ".join(words[:-1])] if len(words) > 1 else []), words[-1]])
 
 
 def all_named(routines: Collection[Routine], names: Iterable[str]) -> set[Routine]:

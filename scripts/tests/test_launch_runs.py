@@ -94,6 +94,7 @@ class Runs(Launched):
             self.assertEqual((self.folder / "r").exists(), is_left)
             self.assertEqual(err, "" if is_left else f"aprof: r was written in part, and is removed\n{UNFINISHED}")
         for stored in ("my notes\\n", "my notes"):
+            (self.folder / "r").unlink()
             started = self.started(FAKE_STORED=stored)
             os.kill(started.pid, signal.SIGINT)
             self.assertEqual(started.communicate(timeout=20)[1], UNFINISHED)
@@ -103,12 +104,12 @@ class Runs(Launched):
         os.kill(started.pid, signal.SIGINT)
         self.assertEqual(started.communicate(timeout=20)[1], UNFINISHED)
         self.assertTrue((self.folder / "r").exists())
-        (self.folder / "r").write_text("old")
+        (self.folder / "r").write_text("aprof 2\nold")
         os.utime(self.folder / "r", (1, 1))
         started = self.started()
         os.kill(started.pid, signal.SIGTERM)
         started.communicate(timeout=20)
-        self.assertEqual((self.folder / "r").read_text(), "old")
+        self.assertEqual((self.folder / "r").read_text(), "aprof 2\nold")
 
     def started(self, head: str = "", start_new_session: bool = False, **more: str) -> subprocess.Popen[str]:
         """A run that goes on until a signal."""

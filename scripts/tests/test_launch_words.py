@@ -152,7 +152,7 @@ class Words(Launched):
             done = self.run_words("run --schedule turns -o r bubble", 9, FAKE_TEXT="schedule 1")
             self.assertIn(f"aprof: line 1 of turns is {line!r}, and {why}\n", done.stderr)
         done = self.run_words("run --schedule turns -o r bubble", 9, FAKE_TEXT="schedule")
-        self.assertIn("it waits, has ended or has not begun; the schedule was edited, or is of another run", done.stderr)
+        self.assertIn("it waits, has ended or has not begun; the schedule was edited, and then has to end with the last edited line, or", done.stderr)
         done = self.run_words("replay -o r text", 13, FAKE_TEXT="trace 1")
         self.assertIn("aprof: text is not a trace as `aprof trace` stores it: its first line is another; store it again\n", done.stderr)
 
@@ -195,10 +195,10 @@ class Words(Launched):
 
     def test_an_image_as_the_output(self) -> None:
         """`-o` took the image, and the word behind it stands for the image then."""
-        for words, status, text in (("run -o bubble text", 3, "image 2"), ("run -o bubble none", 2, "cannot read none")):
-            done = self.run_words(words, status, FAKE_TEXT=text)
-            said = "(-o takes the path of the report, and bubble is an executable: write -o PATH bubble)\n"
-            self.assertTrue(done.stderr.endswith(said), done.stderr)
+        said = "it is no report, and is not overwritten; -o takes the path of the report: write -o PATH bubble"
+        for words in ("run -o bubble text", "run -o bubble none"):
+            done = self.run_words(words)
+            self.assertEqual((done.returncode, done.stderr), (4, f"aprof: cannot write bubble: {said}\n"))
 
     def test_report_as_trace(self) -> None:
         (self.folder / "old").write_text("aprof 2\nend exit 0\nsteps 3\nopen 0\ndone 0\n")

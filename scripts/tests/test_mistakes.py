@@ -37,7 +37,7 @@ MISTAKES: list[tuple[list[str], str]] = [
     (["--fail-above", "x", WORDS], "show: --fail-above x: a factor above 0, as 2.5\n"),
     (["--fail-above", "0", WORDS], "show: --fail-above 0: a factor above 0, as 2.5\n"),
     ([WORDS, "main@"], "show: no file and no routine called main@; there is main (--all lists them)\n"),
-    ([WORDS, "file"], "show: no file and no routine called file; there is count_file (--all lists them)\n"),
+    ([WORDS, "file"], "show: no file and no routine called file; there are count_file and __unlist_locked_file (--all lists them)\n"),
     (["--page", WORDS], "show: --page FILE wants a report too: show --page FILE REPORT...\n"),
     (["--lines", WORDS], "show: no option --lines; there is --image\n"),
     (["--html=x", WORDS], "show: no option --html; there is --page\n"),
