@@ -141,8 +141,11 @@ def growth_by(spots: list[Spot], smooth: bool) -> Growth | None:
         weak=weakness(len(spots), ratio),
         rising=rising_slope(used, exponent) if smooth else None,
     )
-    is_small = growth.is_steep and not growth.superlinear
-    return replace(growth, weak=growth.weak or f"sizes below {LEAST_LARGEST}") if is_small else growth
+    if growth.is_steep and not growth.superlinear:
+        return replace(growth, weak=growth.weak or f"sizes below {LEAST_LARGEST}")
+    if growth.is_steep and flattens(used):
+        return replace(growth, weak=growth.weak or "less steep at the largest sizes")
+    return growth
 
 
 def weakness(sizes: int, ratio: float) -> str | None:
@@ -171,6 +174,22 @@ def top_slope(spots: Sequence[Spot]) -> float:
 
 def net_slope(spots: Sequence[Spot]) -> float | None:
     """The top slope after the size and the cost of the least spot are taken off the others."""
-    least_size, least_cost = spots[0]
-    net = [(size - least_size, cost - least_cost) for size, cost in spots[1:] if cost > least_cost]
+    net = net_spots(spots)
     return top_slope(net) if len(net) > 1 else None
+
+
+def net_spots(spots: Sequence[Spot]) -> list[Spot]:
+    least_size, least_cost = spots[0]
+    return [(size - least_size, cost - least_cost) for size, cost in spots[1:] if cost > least_cost]
+
+
+def flattens(spots: Sequence[Spot]) -> bool:
+    """Whether a steep growth isn't one at its end: the last doubling is no steeper than n log n, or a word is dearest at sizes
+    well below the largest. A few dear calls of middle sizes, as of malloc's slow path, look so."""
+    net = net_spots(spots)
+    if len(net) < 2:
+        return False
+    last, dearest = greatest_by_window(net, 1)[-1], max(net, key=lambda spot: spot[1] / spot[0])
+    before = [spot for spot in greatest_by_window(net, 1) if 1.8 * spot[0] <= last[0]]
+    is_flat = bool(before) and factor_of(slope_between(before[-1], last)) <= SUPERLINEAR
+    return is_flat or dearest[0] * math.sqrt(2) < net[-1][0]

@@ -11,7 +11,7 @@ MEANINGS = {
     STEEP: "superlinear: faster than n log n, at least at the largest sizes",
     MANY: "harmless itself, but its many calls together make what calls it superlinear",
     RISING: "rises from size to size: steeper than this at larger ones, so watch it",
-    WEAK: f"few sizes, sizes below {LEAST_LARGEST}, or within a factor of 4: the growth is uncertain",
+    WEAK: f"uncertain: few sizes, below {LEAST_LARGEST}, within a factor of 4, or less steep at the end",
 }
 
 

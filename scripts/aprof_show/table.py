@@ -61,7 +61,7 @@ def summary(profile: Profile, rows: Sequence[Row], choice: Choice, room: int) ->
     lines += legend(signs_of([*listed, *marked_of(sure_of(folded))[:NAMED], *marked_of(hidden)[:NAMED]]))
     lines += folded_lines(folded, room) if folded else []
     lines += hidden_lines(hidden, choice, room) if hidden else []
-    return lines + one_size_lines(rows, listed, room) + writers_lines(listed, choice.by) + nameless_lines(profile, listed)
+    return lines + one_call_lines(rows, listed, room) + writers_lines(listed, choice.by) + nameless_lines(profile, listed)
 
 
 def with_causes(lines: Sequence[str], rows: Sequence[Row], room: int) -> list[str]:
@@ -213,13 +213,13 @@ def writers_lines(rows: Sequence[Row], by: str | None) -> list[str]:
     return []
 
 
-def one_size_lines(rows: Sequence[Row], listed: Sequence[Row], room: int) -> list[str]:
-    """Where nothing is marked, and a routine with most of the cost has one size, that several runs tell more."""
-    most = [row for row in listed if row.share > 0.5 and row.routine.points and not row.routine.label.startswith("_")]
-    if not most or any(row.growth for row in most) or marked_of(rows):
+def one_call_lines(rows: Sequence[Row], listed: Sequence[Row], room: int) -> list[str]:
+    """Where nothing is marked, and a routine that was called once has most of the cost, that several runs tell more."""
+    most = [row for row in listed if row.share > 0.5 and not row.routine.label.startswith("_")]
+    if not most or any(row.growth for row in most) or most[0].routine.calls != 1 or marked_of(rows):
         return []
     name = cut(most[0].routine.label, 40)
-    return wrapped(f"{name} has one size: the reports of several inputs, shown together, tell how it grows", room)
+    return wrapped(f"{name} has one call: the reports of several inputs, shown together, tell how it grows", room)
 
 
 def nameless_lines(profile: Profile, listed: Sequence[Row]) -> list[str]:

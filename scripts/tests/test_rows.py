@@ -79,9 +79,9 @@ class Listed(unittest.TestCase):
         self.assertIn(told, summary(profile, rows_of(profile), Choice(all=True), 80))
         self.assertNotIn(told, summary(profile, rows_of(profile), Choice(all=True, by="thread"), 80))
 
-    def test_most_of_one_size(self) -> None:
+    def test_most_in_one_call(self) -> None:
         """Where nothing is marked, that several runs tell more is said; else what is marked tells enough."""
-        told = "main has one size: the reports of several inputs, shown together, tell how it grows"
+        told = "main has one call: the reports of several inputs, shown together, tell how it grows"
         for cost, is_told in ((lambda n: n, True), (lambda n: n * n, False)):
             profile = profile_of({"grows": cost}, rest=10_000_000)
             self.assertEqual(told in summary(profile, rows_of(profile), Choice(), 100), is_told)

@@ -156,7 +156,7 @@ class Trees(unittest.TestCase):
             " 100.0%  2.8%     -      1  main",
             "  97.2% 83.3%  x1.7~     3    parse (recursive)",
             "  13.9% 13.9%     -      1      leaf",
-            "~ few sizes, sizes below 16, or within a factor of 4: the growth is uncertain",
+            "~ uncertain: few sizes, below 16, within a factor of 4, or less steep at the end",
         ])
 
     def test_recursion_by_another_is_not_followed_again(self) -> None:

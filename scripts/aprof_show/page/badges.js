@@ -5,9 +5,9 @@ const lookOf = (name) => (cell) => cell.classList.add(name);
 
 const BADGES = [
   { has: (r) => r.steep && !r.weak, word: "superlinear", about: "superlinear: faster than n log n, at least at the largest sizes", put: lookOf("steep") },
-  { has: (r) => r.steep && r.weak, word: "superlinear, uncertain", about: "superlinear, but uncertain: few sizes, or sizes within a factor of 4",
+  { has: (r) => r.steep && r.weak, word: "superlinear, uncertain", about: "superlinear, but uncertain: few sizes, sizes within a factor of 4, or less steep at the end",
     put: (cell) => cell.classList.add("steep", "doubt") },
-  { has: (r) => !r.steep && r.weak, word: "uncertain", about: "uncertain: few sizes, sizes below 16, or within a factor of 4", put: lookOf("doubt") },
+  { has: (r) => !r.steep && r.weak, word: "uncertain", about: "uncertain: few sizes, sizes below 16, within a factor of 4, or less steep at the end", put: lookOf("doubt") },
   { has: (r) => r.many, word: "many calls", about: "harmless itself, but its many calls together make what calls it superlinear",
     put: (cell, number) => { cell.classList.add("many"); number.prepend("∗"); } },
   { has: (r) => r.rising !== null, word: "rising", about: "rises from size to size: steeper than this at larger ones, so watch it",

@@ -11,7 +11,7 @@ function verdictOf(routine) {
   }
   const bent = routine.bent === null ? ""
     : ` Costs at one size differ, so that is of the mean; the greatest cost grows ${times(routine.bent)}.`;
-  const weak = routine.weak ? ` That rests on ${routine.weak}, and is uncertain.` : "";
+  const weak = routine.weak ? ` That is uncertain: ${routine.weak}.` : "";
   return `Where its input doubles, its ${bent ? "mean" : "greatest"} cost grows ${times(routine.growth)}${slopeOf(routine)}.${bent}${weak}`;
 }
 
