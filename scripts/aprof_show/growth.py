@@ -184,12 +184,16 @@ def net_spots(spots: Sequence[Spot]) -> list[Spot]:
 
 
 def flattens(spots: Sequence[Spot]) -> bool:
-    """Whether a steep growth isn't one at its end: the last doubling is no steeper than n log n, or a word is dearest at sizes
-    well below the largest. A few dear calls of middle sizes, as of malloc's slow path, look so."""
+    """Whether a steep growth isn't one at its end: its last doubling is no steeper than n log n, or its words are dearer below the
+    largest sizes than at them. A few dear calls of middle sizes, as of malloc's slow path, look so."""
     net = net_spots(spots)
     if len(net) < 2:
         return False
-    last, dearest = greatest_by_window(net, 1)[-1], max(net, key=lambda spot: spot[1] / spot[0])
-    before = [spot for spot in greatest_by_window(net, 1) if 1.8 * spot[0] <= last[0]]
-    is_flat = bool(before) and factor_of(slope_between(before[-1], last)) <= SUPERLINEAR
-    return is_flat or dearest[0] * math.sqrt(2) < net[-1][0]
+    largest = net[-1][0]
+    windows = greatest_by_window(net, 1)
+    before = [spot for spot in windows if 1.8 * spot[0] <= windows[-1][0]]
+    if before and factor_of(slope_between(before[-1], windows[-1])) <= SUPERLINEAR:
+        return True
+    of_a_word = [(size, cost / size) for size, cost in net if 4 * size >= largest]
+    at_the_end = max(cost for size, cost in of_a_word if size * math.sqrt(2) >= largest)
+    return at_the_end < 0.8 * max(cost for _, cost in of_a_word)
