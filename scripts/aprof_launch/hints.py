@@ -72,8 +72,8 @@ class Hints:
             return []
         if not found:
             return []
-        opens = "; if it could not open a file: it can read those that stand behind it on the command line, in the same spelling, and write none"
-        return [f"{self.image()} ended with exit code {found[1].decode()}{opens}"]
+        which = "it can read those that stand behind it on the command line, in the same spelling, and write none"
+        return [f"{self.image()} ended with exit code {found[1].decode()}; if it could not open a file: {which}"]
 
     def bad_words(self) -> list[str]:
         said = [self.read.complaint] if self.read.complaint else []
