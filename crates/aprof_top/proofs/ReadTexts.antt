@@ -1,7 +1,7 @@
 -- Each text is a schedule or has a bad line, and all bytes are a trace or are refused: it can't be that they are neither.
 use Rattle.std.proofs.Common.{◌≡◌, ◌≢◌, ◌⊎◌, ℕ, zero, suc, ◌+◌, ◌<◌, ◌≤◌, Bool, true, false, List, [], ◌∷◌, ◌++◌, length, length-append, map, reverse, Option, Some, None, refl, sym, ap, ap₂, ◌∙◌, subst, inl, inr, arith, append_assoc, append-nil}
 use Rattle.std.specs.Prelude.{nat_eq}
-use Rattle.std.specs.List.{AllByRecursion, flat_map}
+use Rattle.std.specs.List.{AllByRecursion}
 use Rattle.std.proofs.lemmas.Bool.Decides.{nat_tests}
 use Rattle.std.proofs.lemmas.Grind.{flat_map-append}
 use Rattle.std.proofs.lemmas.List.{map-append, reverse-append}
@@ -19,6 +19,7 @@ use Rattle.trace_file.specs.declared.errors.TraceError.{TraceError}
 use Rattle.trace_file.specs.declared.errors.TraceError.TheVariants as errors
 use Rattle.trace_file.specs.declared.records.Record.{Record}
 use Rattle.trace_file.specs.declared.records.Record.TheVariants.{OfEvent, OfName, OfFinish}
+use Rattle.trace_file.proofs.ReadBytes.{text_more}
 use Rattle.trace_model.specs.declared.event_kinds.Event.{Event}
 use Rattle.trace_model.specs.WellFormed.{IsWellFormed}
 use Rattle.aprof_top.specs.Schedules.{Reading, Reads}
@@ -153,11 +154,6 @@ pub record SomeRefusal (bytes : List ℕ) : Type 0 where
 
 abbrev told : List Event → Names → Option Finish → Told
 told past names finish = record { past = past; names = names; finish = finish }
-
-text_more : (rs : List Record) (r : Record) → text_of (rs ++ r ∷ []) ≡ text_of rs ++ record_bytes r
-text_more rs r =
-    ap (λ y. magic ++ y) (flat_map-append record_bytes rs (r ∷ []) ∙ ap (λ y. flat_map record_bytes rs ++ y) (append-nil (record_bytes r)))
-    ∙ sym (append_assoc magic (flat_map record_bytes rs) (record_bytes r))
 
 fits_more : (rs : List Record) (r : Record) → AllByRecursion Fits rs → Fits r → AllByRecursion Fits (rs ++ r ∷ [])
 fits_more [] r all here = (here, tt)

@@ -30,7 +30,8 @@ use Rattle.trace_file.specs.declared.records.Record.TheVariants.{OfEvent, OfFini
 use Rattle.trace_model.specs.declared.event_kinds.Event.{Event}
 use Rattle.trace_model.specs.declared.event_kinds.Event.TheVariants.{Call, Start}
 use Rattle.trace_model.specs.Depth.{is_within}
-use Rattle.trace_model.specs.WellFormed.{IsLight, IsWellFormed}
+use Rattle.trace_model.specs.WellFormed.{IsLight}
+use Rattle.trace_model.proofs.Bounds.{light_formed}
 use Rattle.aprof_top.specs.ContextReports.{can_be_numbered, contexts_report}
 use Rattle.aprof_top.specs.Loads.{Loaded, guest_loads, loaded_of, loads_of}
 use Rattle.aprof_top.specs.Outcome.{Follows, IsAnswer, IsOutcome, IsReplay, Outcome, Stage, job_of, recording_stores, refusal, replay_text, stage, told_apart, told_finish}
@@ -152,10 +153,6 @@ finish_fits (ends.Exit status) fits = omega (arith, fits.ranges.0.1)
 finish_fits (ends.Fault kind tid at) fits = (fits.ranges.1.0.0, fits.ranges.1.0.1, omega (arith, fits.ranges.1.1.0.1))
 finish_fits (ends.Schedule line) fits = (fits.content, omega (arith, fits.ranges.1.0.1))
 finish_fits _ fits = tt
-
-light_formed : (past : List Event) → IsWellFormed past → IsLight past
-light_formed [] formed = omega arith
-light_formed (e ∷ past) formed = formed.1
 
 told_fits : (bits : StampBits) (past : List Event) (finish : Finish) → FitsEnd finish → FitsEnd (told_finish bits past finish)
 told_fits bits past finish fits = by (is_within (greatest bits) past)

@@ -9,7 +9,8 @@ use Rattle.trace_model.specs.declared.event_kinds.Event.{Event}
 use Rattle.trace_model.specs.declared.event_kinds.Event.TheVariants.{Step, Read, Write}
 use Rattle.trace_model.specs.Events.{thread_of}
 use Rattle.trace_model.specs.Profile.{steps}
-use Rattle.trace_model.specs.WellFormed.{IsLight, IsWellFormed, MayFollow, weight, weight_of}
+use Rattle.trace_model.specs.WellFormed.{IsWellFormed, MayFollow, weight, weight_of}
+use Rattle.trace_model.proofs.Bounds.{light_formed}
 use Rattle.guest_words.specs.declared.limits.TheConstants.{TRACE_WEIGHT}
 use Rattle.cost_points.specs.Keys.{rising, insert_rising}
 use Rattle.cost_points.proofs.Bounds.{All-grouped}
@@ -69,10 +70,6 @@ all-le shape (e ∷ past) formed =
       length-accesses_of shape e past,
     )
 
-pub is_light : (past : List Event) → IsWellFormed past → IsLight past
-is_light [] formed = omega arith
-is_light (e ∷ past) formed = formed.1
-
 abbrev entry_of : LineAccess → ℕ
 entry_of a = a.entry
 
@@ -88,7 +85,7 @@ counts-fit all few =
 
 -- a write weighs one and can access as many lines as the memory has words: so the counts are in 128 bits
 pub have_room : (shape : Dimensions) (past : List Event) → IsWellFormed past → All HasRoom (by_routine (all_accesses shape past))
-have_room shape past formed = counts-fit (all_accesses shape past) (omega (arith, all-le shape past formed, is_light past formed))
+have_room shape past formed = counts-fit (all_accesses shape past) (omega (arith, all-le shape past formed, light_formed past formed))
 
 -- ---- steps
 steps-le : (past : List Event) → steps past ≤ weight past
@@ -111,4 +108,4 @@ routines-le shape (e ∷ past) =
     omega (arith, routines-le shape past, more-le (all_accesses shape past) (accesses_of shape e past) entry same, some_weight e)
 
 pub few_routines : (shape : Dimensions) (past : List Event) (count : ℕ) → IsWellFormed past → count ≡ length (by_routine (all_accesses shape past)) → count < 2 ^ 63
-few_routines shape past count formed is = omega (arith, routines-le shape past, is_light past formed, is)
+few_routines shape past count formed is = omega (arith, routines-le shape past, light_formed past formed, is)

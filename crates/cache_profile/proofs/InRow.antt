@@ -79,6 +79,3 @@ module _ (shape : Dimensions) (wide : 4 ≤ shape.line) where
       range_with_len a (b - a + 1) ≡ lines_over shape first count
   covered first count a b some first_is last_is =
       ap₂ (λ m n. range_with_len m (n - m + 1)) first_is last_is ∙ sym (lines_are first count some)
-
-  pub lines_up : (first count : ℕ) → line_of shape first ≤ line_of shape (first + (count - 1))
-  lines_up first count = lines-rise first (first + (count - 1)) (omega arith)

@@ -35,7 +35,7 @@ impl Shaped for Brand {
 }
 
 /// The line accesses and the misses of the events so far, by routine, for a cache of the shape that `K` carries. It takes all
-/// pasts. An access of the routine of the last one costs as much as the cache has ways. For another routine, a look-up is added
+/// pasts. An access of the routine of the last one costs as much as the cache has ways. For another routine, a lookup is added
 /// that is logarithmic in their number. A routine's first access also moves the rest of a block of at most 128 routines, and at
 /// most one in 64 of these cuts a block in two, which moves the list of blocks.
 #[derive(Drop)]

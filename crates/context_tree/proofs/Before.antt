@@ -7,7 +7,7 @@ use Rattle.std.proofs.lemmas.List.{append-nil}
 use Rattle.context_tree.specs.Order.{is_before}
 use Rattle.context_tree.specs.Private.Leaving.{Extends}
 
-same_number : (n m : ℕ) → (n == m) ≡ true → n ≡ m
+pub same_number : (n m : ℕ) → (n == m) ≡ true → n ≡ m
 same_number n m is = grind (arith, nat_tests)
 
 pub before_append : (u a b : List ℕ) → is_before (u ++ a) (u ++ b) ≡ is_before a b

@@ -27,6 +27,7 @@ use Rattle.context_tree.specs.Points.{done_in_context, points_from, points_in, p
 use Rattle.context_tree.specs.Branches.{KeptBranches, BranchesStandFor, current_of}
 use Rattle.context_tree.specs.Private.Adding.{with_list}
 use Rattle.context_tree.specs.Private.Ways.{ArePoints, IsWay, tagged, up}
+use Rattle.context_tree.proofs.Before.{same_number}
 use Rattle.context_tree.proofs.Known.{done_known, no_members}
 use Rattle.context_tree.proofs.Numbering.{not_none, same_front}
 use Rattle.context_tree.proofs.Rooms.{rooms}
@@ -90,9 +91,6 @@ module _ (places : List (ℕ × ℕ)) (known : List (List ℕ)) (stands : by_num
       ∙ ap (λ bs. zip bs ds) (sym (shifted (λ k. context_of (drop k (a ∷ calls))) 0 (length ds))))
 
 -- ---- threads and their contexts
-same_number : (n m : ℕ) → (n == m) ≡ true → n ≡ m
-same_number n m is = grind (arith, nat_tests)
-
 turned : (n m : ℕ) (b : Bool) → (n == m) ≡ b → nat_eq m n ≡ b
 turned n m true is = let same : n ≡ m = same_number n m is in let there : nat_eq m n ≡ true = grind (arith, nat_tests, same) in there
 turned n m false is = grind (arith, nat_tests, is)
@@ -133,15 +131,15 @@ still_number known b m c is = by (list_any (same b) known)
       there = numbered_more m is.within ∙ is.there;
     }
 
-no_point : points_from [] ≡ []
+pub no_points : points_from [] ≡ []
 unfolding grouped
-no_point = refl
+no_points = refl
 
 points_grown : (past : List Event) (c : List ℕ) (b : Bool) → list_any (same c) (contexts past) ≡ b →
     with_list b (map (points_in past) (contexts past)) ≡ map (points_in past) (cond b (contexts past) (contexts past ++ c ∷ []))
 points_grown past c true is = refl
 points_grown past c false is =
-    let none : points_in past c ≡ [] = ap points_from (no_members (contexts past) c (done_in_context past) (done_known past) is) ∙ no_point in
+    let none : points_in past c ≡ [] = ap points_from (no_members (contexts past) c (done_in_context past) (done_known past) is) ∙ no_points in
     ap (λ (ps : List Point). map (points_in past) (contexts past) ++ ps ∷ []) (sym none) ∙ sym (map-append (points_in past) (contexts past) (c ∷ []))
 
 module _ (old new : KeptBranches) (past : List Event) (e : Event) (tid n : ℕ) (a : Activation) (stands : BranchesStandFor old past)

@@ -1,5 +1,5 @@
 -- A tree grows with the events.
-use Rattle.std.proofs.Common.{◌≡◌, ℕ, ◌<◌, ◌≤◌, length, List, [], ◌∷◌, All, Option, Some, None, sym, subst, arith}
+use Rattle.std.proofs.Common.{◌≡◌, ℕ, ◌<◌, ◌≤◌, length, List, ◌∷◌, All, Option, Some, None, sym, subst, arith}
 use Rattle.std.specs.Prelude.{IfSome}
 use Rattle.std.proofs.Math.Logic.{∥∥₁_elim, ∥∥₁_map}
 use Rattle.std.proofs.Props.{props}
@@ -10,7 +10,8 @@ use Rattle.trace_model.specs.declared.event_kinds.Event.TheVariants.{Call, End, 
 use Rattle.trace_model.specs.declared.slow_profile.Done.{Done}
 use Rattle.trace_model.specs.Activations.{backs, count_ending, open_calls}
 use Rattle.trace_model.specs.Profile.{ended}
-use Rattle.trace_model.specs.WellFormed.{IsLight, IsWellFormed, greatest_start}
+use Rattle.trace_model.specs.WellFormed.{IsWellFormed, greatest_start}
+use Rattle.trace_model.proofs.Bounds.{light_formed}
 use Rattle.trace_order.proofs.Progressing.{allowed_by}
 use Rattle.context_tree.specs.Branches as grown
 use Rattle.context_tree.specs.Private.Pasts as pasts
@@ -22,10 +23,6 @@ use Rattle.context_tree.specs.Trees.{AreEnded, IsOfSome, KeptTree, MayCome, Tree
 use Rattle.context_tree.proofs.Following.{as_many, current_within, each_points, way_ended}
 use Rattle.context_tree.proofs.Once.{if_some, whole_once}
 
-light_of : (past : List Event) → IsWellFormed past → IsLight past
-light_of [] formed = omega arith
-light_of (e ∷ past) formed = formed.1
-
 pub formed_next : (kept : KeptTree) (past : List Event) (e : Event) → TreeStandsFor kept past → MayCome kept e → IsWellFormed (e ∷ past)
 formed_next kept past e stands may = (allowed_by e (lives kept) kept.progress past stands.progress_is stands.branches_are.threads_live).0 may
 
@@ -34,14 +31,14 @@ pub whole : (kept : KeptTree) → ∥ IsOfSome kept ∥₁ → IsWhole kept.bran
 whole kept some = ∥∥₁_elim some (whole_once kept.branches) (λ of. record {
   long = as_many kept.branches of.past of.now.branches_are;
   linked = of.now.branches_are.links_are;
-  each = each_points kept.branches of.past of.now.branches_are (light_of of.past of.now.progress_is.formed);
+  each = each_points kept.branches of.past of.now.branches_are (light_formed of.past of.now.progress_is.formed);
 })
 
 pub some_branches : (kept : KeptTree) → ∥ IsOfSome kept ∥₁ → ∥ pasts.IsOfSome kept.branches ∥₁
 some_branches kept some = ∥∥₁_map some (λ of. record { past = of.past; now = of.now.branches_are })
 
 pub light_branches : (kept : KeptTree) → ∥ IsOfSome kept ∥₁ → ∥ pasts.IsOfLight kept.branches ∥₁
-light_branches kept some = ∥∥₁_map some (λ of. record { past = of.past; now = of.now.branches_are; light = light_of of.past of.now.progress_is.formed })
+light_branches kept some = ∥∥₁_map some (λ of. record { past = of.past; now = of.now.branches_are; light = light_formed of.past of.now.progress_is.formed })
 
 -- the one that comes next has a number
 follower_within : (known : List (List ℕ)) (c : List ℕ) (o : Option ℕ) → IsFollowedBy known c o → IfSome o (λ m. (1 ≤ m) × (m ≤ length known))

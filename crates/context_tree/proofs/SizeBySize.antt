@@ -10,7 +10,7 @@ use Rattle.trace_model.specs.declared.event_kinds.Event.{Event}
 use Rattle.trace_model.specs.declared.slow_profile.Done.{Done}
 use Rattle.cost_points.specs.declared.point.Point.{Point}
 use Rattle.cost_points.specs.Contents.{TableContents}
-use Rattle.cost_points.specs.Keys.{IsRising, grouped, rising}
+use Rattle.cost_points.specs.Keys.{IsRising, rising}
 use Rattle.cost_points.specs.Points.{Routine, point_of, points, routine_of}
 use Rattle.cost_points.proofs.Bounds.{having_sized}
 use Rattle.cost_points.proofs.Grouped.{grouped_is, having, having_none, having_some}
@@ -20,6 +20,7 @@ use Rattle.context_tree.specs.Contexts.{contexts}
 use Rattle.context_tree.specs.Laws.{context_points, is_of, routine_points, together, with_more}
 use Rattle.context_tree.specs.Points.{done_in_context, members_of, points_from}
 use Rattle.context_tree.proofs.AddingUp.{members_named}
+use Rattle.context_tree.proofs.Following.{no_points}
 use Rattle.context_tree.proofs.Standing.{have_places}
 use Rattle.context_tree.proofs.Summing.{all_end, by_context, points_are, sized_by_size}
 
@@ -56,10 +57,6 @@ with_lists members (k ∷ ks) added =
     ∙ ap (λ ps. fold with_more ps (flat_map (λ j. points_from (members j)) ks)) (with_all (members k) added)
     ∙ with_lists members ks (added ++ members k)
     ∙ ap points_from (append_assoc added (members k) (flat_map members ks))
-
-no_points : points_from [] ≡ []
-unfolding grouped
-no_points = refl
 
 together_of : {K : Type 0} (members : K → List Done) (ks : List K) → together (flat_map (λ k. points_from (members k)) ks) ≡ points_from (flat_map members ks)
 together_of members ks = ap (λ ps. fold with_more ps (flat_map (λ k. points_from (members k)) ks)) (sym no_points) ∙ with_lists members ks []

@@ -149,7 +149,7 @@ impl Table {
         self.routines.len()
     }
 
-    /// Makes looking up routines by their index quick: logarithmic in their number, until a new one comes. Without it, a look-up
+    /// Makes looking up routines by their index quick: logarithmic in their number, until a new one comes. Without it, a lookup
     /// goes past the blocks of routines one by one.
     pub fn index_routines(&mut self) -> Result<(), AllocError>
         ensures { self.new ≡ self.old }

@@ -19,14 +19,6 @@ observes_none Stands fits old e events mid closed first = λ past stood fitting.
     subst (λ (p : List Event). Stands mid (cut fits p) × (fits p ≡ false)) (sym (past_after-cons past e events))
     (subst (Stands mid) (sym (cut-here fits closed past (reverse events) e fitting now.1)) now.0, fits-earlier fits closed (e ∷ past) (reverse events) now.1)
 
--- an event alone
-pub observes_one : {W : Type 0} (Stands : W → List Event → Type 0) (fits : List Event → Bool) (old : W) (e : Event) (new : W) (observed : Observed) →
-    IsPrefixClosed fits → Observes Stands fits e old new observed → ObservesAll Stands fits (e ∷ []) old new observed
-observes_one Stands fits old e new Taken closed first = λ past stood fitting.
-    let now = first past stood in
-    (subst (Stands new) (sym (cut-fits fits (e ∷ past) now.1)) now.0, now.1)
-observes_one Stands fits old e new Refused closed first = observes_none Stands fits old e [] new closed first
-
 -- no event
 pub observes_nothing : {W : Type 0} (Stands : W → List Event → Type 0) (fits : List Event → Bool) (old : W) → ObservesAll Stands fits [] old old Taken
 observes_nothing Stands fits old = λ past stood fitting. (subst (Stands old) (sym (cut-fits fits past fitting)) stood, fitting)

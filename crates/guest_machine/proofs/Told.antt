@@ -19,13 +19,12 @@ use Rattle.guest_machine.specs.Machine.{MachineState}
 use Rattle.guest_machine.specs.declared.stepped.Stepped.{Stepped}
 use Rattle.guest_machine.specs.Kept.{Parts, Steps, machine_of}
 use Rattle.guest_machine.specs.Step.{StepResult, access_events, faulted, jump_events, pc_of, went}
-use Rattle.guest_machine.specs.Told.{IsInstruction, IsQuiet, done_by, stepped_of, told}
+use Rattle.guest_machine.specs.Told.{IsInstruction, done_by, stepped_of, told}
 use Rattle.guest_machine.specs.Private.Telling.{IsAlone}
 use Rattle.guest_machine.proofs.Executed.{Steps-faulted}
 use Rattle.guest_machine.specs.declared.stepped.Stepped.TheVariants.{Faulted}
 use Rattle.guest_machine.specs.declared.stepped.Advanced.{Advanced}
 use Rattle.guest_machine.specs.declared.stepped.Advanced.TheVariants.{Ran, Accessed, Jumped, Other}
-use Rattle.trace_model.specs.EventList.{EventList}
 
 -- an outcome whose access, if there is one, is no call and no return
 abbrev IsAloneIn : Outcome → JumpKind → Type 0
@@ -84,6 +83,3 @@ unfolding machine_of
 Steps-fault p p1 p2 tid kind at a r old is same changed faults place =
     subst (λ (b : Advanced). Steps r (stepped_of b) p2 old (old ++ told tid b)) (sym is)
     (Steps-told r (Faulted kind at) p2 old old (Steps-faulted p p2 tid kind at r old faults place (ap machine_of changed ∙ same) (ap (λ (q : Parts). q.called) changed)))
-
-pub quiet-fault : (a : Advanced) (outcome : Stepped) (p : Parts) (before after : EventList) → a ≡ Other outcome → IsQuiet a p before after
-quiet-fault a outcome p before after is = subst (λ (b : Advanced). IsQuiet b p before after) (sym is) tt

@@ -4,4 +4,5 @@ pub mod Found
 pub mod Numerals
 pub mod Pieces
 pub mod ReadyPlaces
+pub mod Texts
 pub mod ThreadTables

@@ -8,7 +8,7 @@ ghost use Rattle.context_tree.specs.Numbers.{numbered};
 ghost use Rattle.context_tree.specs.Order.{IsInOrder};
 ghost use Rattle.guest_words.specs.declared.limits.TheConstants.{CONTEXTS};
 ghost use Rattle.context_tree.specs.Trees.{TreeStandsFor};
-ghost use Rattle.profile_report.specs.Private.Kept.{KeepsOn};
+ghost use Rattle.guest_words.specs.Texts.{KeepsOn};
 ghost use Rattle.profile_report.specs.ContextText.{context_line, context_text, contexts_text};
 
 use crate::line_text::{hex_address, or_cut_back, push_number_line};
@@ -18,7 +18,7 @@ use guest_words::{Addr, push_decimal};
 use std::alloc::AllocError;
 
 // Appends the line of a context.
-#[tactic(auto, using(crate::proofs::Texts::keeps, crate::proofs::Texts::keeps_same, crate::proofs::Texts::keeps_further))]
+#[tactic(auto, using(guest_words::proofs::Texts::keeps, guest_words::proofs::Texts::keeps_same, guest_words::proofs::Texts::keeps_further))]
 fn push_context_line(text: &mut Vec<u8>, depth: u32, entry: Addr) -> Result<(), AllocError>
     ensures ok { OnOk result (text.new.items ≡ text.old.items ++ ended (context_line depth entry)) }
     ensures kept { KeepsOn text.old.items text.new.items }
@@ -31,7 +31,7 @@ fn push_context_line(text: &mut Vec<u8>, depth: u32, entry: Addr) -> Result<(), 
 }
 
 // Appends the lines of the context of a number.
-#[tactic(auto, using(crate::proofs::Texts::keeps, crate::proofs::Texts::keeps_same, crate::proofs::Texts::keeps_further))]
+#[tactic(auto, using(guest_words::proofs::Texts::keeps, guest_words::proofs::Texts::keeps_same, guest_words::proofs::Texts::keeps_further))]
 fn push_context(text: &mut Vec<u8>, tree: &Tree, n: u32) -> Result<(), AllocError>
     requires some { 1 ≤ n }
     requires within { n ≤ length tree.now.branches.places }
@@ -45,7 +45,7 @@ fn push_context(text: &mut Vec<u8>, tree: &Tree, n: u32) -> Result<(), AllocErro
 }
 
 // Appends the lines of all contexts.
-#[tactic(auto, using(crate::proofs::Texts::keeps, crate::proofs::Texts::keeps_same, crate::proofs::Texts::keeps_further))]
+#[tactic(auto, using(guest_words::proofs::Texts::keeps, guest_words::proofs::Texts::keeps_same, guest_words::proofs::Texts::keeps_further))]
 fn push_each(text: &mut Vec<u8>, tree: &Tree) -> Result<(), AllocError>
     ensures ok { (past : List Event) (ordered : List (List ℕ)) → TreeStandsFor tree.now past
         → IsInOrder (contexts past) ordered
@@ -63,7 +63,7 @@ fn push_each(text: &mut Vec<u8>, tree: &Tree) -> Result<(), AllocError>
 }
 
 /// Appends the text of all contexts, in the order of the text. If it runs out of memory, the text stays as it was.
-#[tactic(auto, using(crate::proofs::Texts::keeps, crate::proofs::Texts::cut_back))]
+#[tactic(auto, using(guest_words::proofs::Texts::keeps, guest_words::proofs::Texts::cut_back))]
 pub fn push_contexts(text: &mut Vec<u8>, tree: &Tree) -> Result<(), AllocError>
     ensures few { (past : List Event) → TreeStandsFor tree.now past
         → OnOk result (length (contexts past) ≤ CONTEXTS) }

@@ -1,9 +1,9 @@
 //! The lines of a report, one function a form.
-#![tactic(auto, using(crate::proofs::Texts::keeps, crate::proofs::Texts::keeps_same, crate::proofs::Texts::keeps_further, crate::proofs::Texts::cut_back))]
+#![tactic(auto, using(guest_words::proofs::Texts::keeps, guest_words::proofs::Texts::keeps_same, guest_words::proofs::Texts::keeps_further, guest_words::proofs::Texts::cut_back))]
 
 ghost use Rattle.std.specs.Prelude.{◌≡◌, ◌++◌, ◌<◌, codes, take, OnErr, OnOk};
 ghost use Rattle.profile_report.specs.LineForms.{end_line, ended, fault_words, first_line, hex_address, hex_glyph, labelled, name_word, point_line, routine_line, split_words};
-ghost use Rattle.profile_report.specs.Private.Kept.{KeepsOn};
+ghost use Rattle.guest_words.specs.Texts.{KeepsOn};
 
 use crate::ReportVersion;
 use cost_points::{Point, Split};

@@ -13,7 +13,7 @@ use cost_points::Point;
 use std::alloc::{AllocError, Global};
 
 /// Appends a line for each point. If it runs out of memory, the text stays as it was.
-#[tactic(auto, using(crate::proofs::Texts::keeps, crate::proofs::Texts::cut_back))]
+#[tactic(auto, using(guest_words::proofs::Texts::keeps, guest_words::proofs::Texts::cut_back))]
 pub fn push_points(text: &mut Vec<u8>, points: &[Point]) -> Result<(), AllocError>
     ensures ok { OnOk result (text.new.items
         ≡ text.old.items ++ flat_map (λ p. ended (point_line p)) points.now) }

@@ -17,7 +17,6 @@ use Rattle.stamp_table.specs.Stands.{Stands}
 use Rattle.shadow_core.specs.State.{State, table_of_state}
 use Rattle.stamp_table.specs.Table.{Table}
 use Rattle.stamp_table.proofs.Deep.{deep_does_not_fit}
-use Rattle.run_profile.specs.Keeping.{MayKeep}
 use Rattle.run_profile.specs.Private.Passing.{IsSettled, ends_none}
 use Rattle.run_profile.specs.Profile.{IsOfFormed, IsProfileOf, KeptRun, ended_at, waiting}
 
@@ -72,9 +71,6 @@ module _ (most : ℕ) {K : Type 0} (Holds : K → List Event → List Done → T
     pub held : Holds k.kept p.earlier k.ended
     held = subst (Holds k.kept p.earlier) waits_all p.kept
 
-    pub may_keep : IsWellFormed past → MayKeep Holds k.kept k.ended e k.ended
-    may_keep formed = record { past = p.earlier; now = held; formed = subst IsWellFormed newest formed; ends_are = ends }
-
     -- it took it
     pub kept : (kept : K) → Holds kept (e ∷ p.earlier) [] → IsProfileOf most Holds (record k { kept = kept; next = None }) past
     kept new holds = record {
@@ -83,17 +79,6 @@ module _ (most : ℕ) {K : Type 0} (Holds : K → List Event → List Done → T
       all = refl;
       ended_is = refl;
       kept = subst (λ events. Holds new events []) (sym newest) holds;
-      steps_are = p.steps_are;
-    }
-
-    -- it took some of what ended
-    pub not_kept : (kept : K) → Holds kept p.earlier k.ended → IsProfileOf most Holds (record k { kept = kept }) past
-    not_kept new holds = record {
-      stands = p.stands;
-      earlier = p.earlier;
-      all = p.all;
-      ended_is = p.ended_is;
-      kept = subst (Holds new p.earlier) (sym waits_all) holds;
       steps_are = p.steps_are;
     }
 

@@ -16,10 +16,6 @@ use Rattle.shadow_core.specs.Private.Reading.{IsChanged}
 use Rattle.shadow_core.specs.State.{State}
 use Rattle.shadow_core.proofs.Profiled.{there_too}
 
--- the same profiler
-pub same_still : {old new : State} → new ≡ old → HasSamePages old new
-same_still {old = old} is = subst (λ (k : State). HasSamePages old k) (sym is) (record { writes = λ w. refl; marks = λ w. refl; accesses = λ t w. refl })
-
 -- the threads' pages hold the same words
 abbrev pub AlikeIn : List (ℕ × Stamped) → List (ℕ × Stamped) → Type 0
 AlikeIn old new = (t w : ℕ) → covers (pages_of new t) w ≡ covers (pages_of old t) w

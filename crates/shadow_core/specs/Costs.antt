@@ -1,4 +1,4 @@
--- What an event costs: look-ups of threads and of pages, comparisons of stamps and of return addresses, and stamps and marks that
+-- What an event costs: lookups of threads and of pages, comparisons of stamps and of return addresses, and stamps and marks that
 -- are read or written, each one step. The making of memory is no step.
 use Rattle.std.specs.Prelude.{ℕ, ◌+◌, ◌*◌, ◌^◌, ◌<◌, ◌≤◌, ◌==◌, if◌then◌else◌, nat_lt, length, map, count_by}
 use Rattle.std.specs.List.{range_with_len}

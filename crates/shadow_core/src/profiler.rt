@@ -392,7 +392,7 @@ impl<S: Lanes> Profiler<S> {
         ensures pages { AreCovered self.old.writes first count → HasSamePages self.old self.new }
         ensures cost { CostsAtMost S.MAX (Fill first count) self.old steps.old steps.new }
     {
-        // A look-up of each page, of which there are at most as many as words, in two tables and twice; and each stamp and mark.
+        // A lookup of each page, of which there are at most as many as words, in two tables and twice; and each stamp and mark.
         steps.count(1 + 6 * u64::from(count));
         cover(&mut self.writes, &mut self.marks, first, count)?;
         advance(
@@ -508,7 +508,7 @@ impl<S: Lanes> Profiler<S> {
             → AreCovered self.old.writes first count → HasSamePages self.old self.new }
         ensures cost { steps.new ≡ steps.old + 6 + 9 * count }
     {
-        // The thread, and a look-up of each page, of which there are at most as many as words, in three tables and twice; and each
+        // The thread, and a lookup of each page, of which there are at most as many as words, in three tables and twice; and each
         // stamp and mark.
         steps.count(6 + 9 * u64::from(count));
         cover_own(&mut self.threads, tid, first, count)?;
@@ -931,7 +931,7 @@ impl<S: Lanes> Profiler<S> {
             → HasSamePages self.old self.new }
         ensures cost { IsReadWithin (4 + 24 * count) self.old.live tid first count steps.old steps.new }
     {
-        // The thread, and a look-up of each page, of which there are at most as many as words.
+        // The thread, and a lookup of each page, of which there are at most as many as words.
         steps.count(4 + u64::from(count));
         cover_own(&mut self.threads, tid, first, count)?;
         let now = S::from_number(self.counter);
@@ -1063,7 +1063,7 @@ impl<S: Lanes> Profiler<S> {
         self.apply_counted(e, done, &mut steps)
     }
 
-    /// The same, and counts what it does: each look-up of a thread or of a page, each comparison of the stamps of frames and of the
+    /// The same, and counts what it does: each lookup of a thread or of a page, each comparison of the stamps of frames and of the
     /// return addresses of calls, and each stamp and mark that is read or written. A count costs nothing at run time. `apply` is
     /// this call, with a count that no one sees.
     #[inline(always)]

@@ -1,8 +1,7 @@
 -- For callers: what the words have once a lent page was written.
-use Rattle.std.proofs.Common.{◌≡◌, ◌≢◌, ℕ, ◌<◌, ◌/◌, ◌%◌, List, length, get_or, Some, refl, ap, sym, ◌∙◌, arith, inl, inr}
-use Rattle.std.proofs.lemmas.Bool.{cases_eq, cases_lt}
-use Rattle.shadow_pages.specs.Pages.{AreDistinct, Page, changed, covers, page_at, page_of, refilled, stamp_at, with_page}
-use Rattle.shadow_pages.proofs.Changes.{changed_place, covers_changed, refilled_same, stamp_changed, stamp_unchanged}
+use Rattle.std.proofs.Common.{◌≡◌, ◌≢◌, ℕ, ◌/◌, ◌%◌, List, length, get_or, Some, ap, ◌∙◌}
+use Rattle.shadow_pages.specs.Pages.{Page, changed, covers, page_of, refilled, stamp_at}
+use Rattle.shadow_pages.proofs.Changes.{covers_changed, refilled_same, stamp_changed, stamp_unchanged}
 use Rattle.shadow_pages.proofs.Lookups.{stands}
 
 -- the words of a written page have what was written
@@ -17,13 +16,3 @@ unwritten_word pages n new w ne = stamp_unchanged pages n (λ old. refilled old 
 
 pub written_cover : (pages : List Page) (n : ℕ) (new : List ℕ) (w : ℕ) → covers (changed pages n (λ old. refilled old new)) w ≡ covers pages w
 written_cover pages n new w = covers_changed pages n (λ old. refilled old new) w
-
--- a page that is lent by its place is the page of its number
-pub page_by_number : (pages : List Page) (i : ℕ) (new : List ℕ) → AreDistinct pages → i < length pages → with_page pages i new ≡ changed pages (page_at pages i).number (λ old. refilled old new)
-page_by_number pages i new distinct within = sym (changed_place pages (page_at pages i).number i (λ old. refilled old new) within refl (λ j lt e. elim (cases_lt j i) [
-  | inl low ↦ absurd (distinct j i low within e)
-  | inr high ↦ elim (cases_eq j i) [
-    | inl same ↦ same
-    | inr differs ↦ absurd (distinct i j (omega (arith, high, differs)) lt (sym e))
-  ]
-]))

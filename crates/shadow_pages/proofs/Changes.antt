@@ -55,9 +55,6 @@ changed_place (p ∷ pages) n (suc i) change within is one =
     (changed_place pages n i change (omega (arith, within)) is (λ j lt e. let at = one (suc j) (omega (arith, lt)) e in omega (arith, at)))
 
 -- what is found after a change
-changed_page : ℕ → (List ℕ → List ℕ) → Page → Page
-changed_page n change p = cond (p.number == n) (record { number = p.number; stamps = change p.stamps }) p
-
 number_same : (n : ℕ) (change : List ℕ → List ℕ) (p : Page) → (cond (p.number == n) (record { number = p.number; stamps = change p.stamps }) p).number ≡ p.number
 number_same n change p = by (p.number == n)
   where

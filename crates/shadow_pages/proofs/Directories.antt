@@ -137,13 +137,6 @@ table_pushed [] table (suc i) none = refl
 table_pushed (t ∷ d) table zero none = refl
 table_pushed (t ∷ d) table (suc i) none = table_pushed d table i none
 
--- the same tables, and empty ones behind them
-pub directory_grown : (d e : List (List (Option ℕ))) → ((i : ℕ) → get_or e i [] ≡ get_or d i []) → IsDirectory d → IsDirectory e
-directory_grown d e same h i low = elim (cases_lt i (length d)) [
-  | inl inside ↦ subst (λ (t : List (Option ℕ)). (length t ≡ 0) ⊎ (length t ≡ 1024)) (sym (same i)) (h i inside)
-  | inr past ↦ inl (ap (λ (t : List (Option ℕ)). length t) (same i ∙ get_or_past d i [] past))
-]
-
 pub entry_grown : (d e : List (List (Option ℕ))) (n : ℕ) → ((i : ℕ) → get_or e i [] ≡ get_or d i []) → entry e n ≡ entry d n
 entry_grown d e n same = ap (λ (t : List (Option ℕ)). get_or t (n % 1024) None) (same (n / 2 ^ 10))
 

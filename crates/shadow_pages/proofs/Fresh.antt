@@ -2,7 +2,7 @@
 use Rattle.std.proofs.Common.{◌≡◌, ◌≢◌, ◌==◌, ℕ, zero, suc, ◌+◌, ◌<◌, ◌≤◌, ◌/◌, ◌%◌, ◌^◌, Bool, true, false, cond, List, [], ◌∷◌, ◌++◌, length, get_or, replicate, Option, Some, None, refl, ap, sym, ◌∙◌, subst, arith, All, inl, inr}
 use Rattle.std.specs.Option.{is_some}
 use Rattle.std.proofs.lemmas.Bool.{cases_eq, cases_lt}
-use Rattle.std.proofs.lemmas.List.{get_or_append_left, get_or_push, get_or_past, get_or-replicate, length-append, length-replicate, append-nil, append_assoc}
+use Rattle.std.proofs.lemmas.List.{get_or_append_left, get_or_push, get_or_past, get_or-replicate, length-append, length-replicate, append_assoc}
 use Rattle.std.proofs.lemmas.List.Elements.{All-append, All-push}
 use Rattle.std.proofs.lemmas.Option.{none-some, same_Some}
 use Rattle.shadow_pages.specs.Directory.{HasTable, HaveTables, entry}
@@ -65,15 +65,6 @@ distinct_push pages q old new i j lt within =
     ]
 
 -- ---- the pages of a range, number by number
-pub fresh_none : (old : List Page) (low : ℕ) → AreDistinct old → AreFresh old [] low low
-fresh_none old low distinct = record {
-  zero = λ k d lt. absurd (omega (arith, lt));
-  inside = λ k d lt. absurd (omega (arith, lt));
-  absent = λ k d lt. absurd (omega (arith, lt));
-  distinct = subst AreDistinct (sym (append-nil old)) distinct;
-  covered = λ n from to. absurd (omega (arith, from, to));
-}
-
 pub fresh_kept : (old fresh : List Page) (low n : ℕ) → AreFresh old fresh low n → is_some (page_of old n) ≡ true → AreFresh old fresh low (n + 1)
 fresh_kept old fresh low n h has = record {
   zero = h.zero;

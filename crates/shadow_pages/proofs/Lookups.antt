@@ -1,10 +1,10 @@
 -- The page of a number, by the place that the directory says.
-use Rattle.std.proofs.Common.{◌≡◌, ◌≢◌, ◌==◌, ℕ, zero, suc, ◌<◌, ◌/◌, ◌%◌, Bool, true, false, cond, List, [], ◌∷◌, length, Option, Some, None, refl, ap, sym, ◌∙◌, arith}
+use Rattle.std.proofs.Common.{◌≡◌, ◌≢◌, ◌==◌, ℕ, zero, suc, ◌<◌, Bool, true, false, cond, List, [], ◌∷◌, length, Option, Some, None, refl, ap, sym, ◌∙◌, arith}
 use Rattle.std.specs.Option.{is_some}
 use Rattle.std.proofs.lemmas.Bool.Decides.{nat_tests}
 use Rattle.std.proofs.lemmas.Option.{none-some, same_Some}
 use Rattle.shadow_pages.specs.Directory.{entry}
-use Rattle.shadow_pages.specs.Pages.{AreDistinct, IsIndexed, Page, page_at, page_of, stamp_at, stamp_in}
+use Rattle.shadow_pages.specs.Pages.{AreDistinct, IsIndexed, Page, page_at, page_of}
 
 pub same_test : (n m : ℕ) → n ≡ m → (n == m) ≡ true
 same_test n m is = grind (arith, nat_tests, is)
@@ -88,7 +88,3 @@ module _ (d : List (List (Option ℕ))) (pages : List Page) (kept : IsIndexed d 
 
   pub place_of : (n : ℕ) → is_some (page_of pages n) ≡ true → (i : ℕ) × (entry d n ≡ Some i)
   place_of n has = place_said (entry d n) (same_cover n ∙ has)
-
--- where the stamp of a word stands
-pub stamp_of_place : (pages : List Page) (w i : ℕ) → page_of pages (w / 1024) ≡ Some (page_at pages i) → stamp_at pages w ≡ stamp_in (Some (page_at pages i)) (w % 1024)
-stamp_of_place pages w i found = ap (λ p. stamp_in p (w % 1024)) found

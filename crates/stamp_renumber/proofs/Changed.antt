@@ -51,7 +51,7 @@ absent n (x ∷ xs) t le rising =
     let other : (x.0 == t) ≡ false = grind (arith, nat_tests, up, le) in
     ap (λ b. cond (not b) (x ∷ without_thread xs t) (without_thread xs t)) other ∙ ap (λ ys. x ∷ ys) (absent x.0 xs t (omega arith) rising.1)
 
-rising_tail : (n : ℕ) (ns : List ℕ) → IsRising (n ∷ ns) → IsRising ns
+pub rising_tail : (n : ℕ) (ns : List ℕ) → IsRising (n ∷ ns) → IsRising ns
 rising_tail n [] rising = tt
 rising_tail n (m ∷ ns) rising = rising.1
 

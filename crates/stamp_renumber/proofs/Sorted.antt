@@ -1,5 +1,5 @@
 -- Classes among starts that do not fall.
-use Rattle.std.proofs.Common.{◌≡◌, ℕ, zero, suc, ◌+◌, ◌-◌, ◌<◌, ◌≤◌, Bool, true, false, cond, leb, List, [], ◌∷◌, ◌++◌, length, map, get_or, take, drop, min, max, Some, None, refl, sym, ap, ◌∙◌, inl, inr, arith}
+use Rattle.std.proofs.Common.{◌≡◌, ℕ, zero, suc, ◌+◌, ◌-◌, ◌<◌, ◌≤◌, Bool, true, false, cond, leb, List, [], ◌∷◌, ◌++◌, length, map, get_or, take, drop, min, max, Some, refl, sym, ap, ◌∙◌, inl, inr, arith}
 use Rattle.std.specs.Prelude.{slice_index, fold}
 use Rattle.std.specs.List.Sorted.{IsPartitionPoint}
 use Rattle.std.proofs.lemmas.Bool.{lt-leb, le-leb, leb-true, leb-false, cases_lt}
@@ -87,10 +87,6 @@ spans (x ∷ xs) least greatest is =
     above : (i : ℕ) → i < length (x ∷ xs) → slice_index (x ∷ xs) i ≤ fold max x xs
     above zero lt = (greatest_all xs x 0).0
     above (suc i) lt = (greatest_all xs x i).1 (omega (arith, lt))
-
-pub no_stamps : (xs : List ℕ) → None ≡ extremes xs → xs ≡ []
-no_stamps [] is = refl
-no_stamps (x ∷ xs) is = absurd (cc)
 
 pub same_at : (f g : ℕ → ℕ) (xs : List ℕ) → ((i : ℕ) → i < length xs → f (slice_index xs i) ≡ g (slice_index xs i)) → map f xs ≡ map g xs
 same_at f g [] same = refl

@@ -15,7 +15,7 @@ use Rattle.stamp_lanes.specs.Plain.{renewed}
 use Rattle.stamp_renumber.specs.Classes.{class, new_access, new_start, new_write}
 use Rattle.stamp_renumber.specs.Renumbered.{IsThreadRenumbered, renewed_frames}
 use Rattle.stamp_renumber.specs.Threads.{Stamped, all_starts}
-use Rattle.stamp_renumber.proofs.Changed.{starts_long}
+use Rattle.stamp_renumber.proofs.Changed.{rising_tail, starts_long}
 
 -- ---- a thread at its place
 pub taken_room : (threads : List (ℕ × Stamped)) (i : ℕ) (x : ℕ × Stamped) → i < length threads → x ≡ get_or threads i x →
@@ -42,10 +42,6 @@ pub all_of_place : (P : ℕ → Type 0) (threads : List (ℕ × Stamped)) (i : �
 all_of_place P [] i d within all = absurd (omega (arith, within))
 all_of_place P (x ∷ threads) zero d within all = all_left P (starts_of x.1.frames) (all_starts threads) all
 all_of_place P (x ∷ threads) (suc i) d within all = all_of_place P threads i d (omega (arith, within)) (all_right P (starts_of x.1.frames) (all_starts threads) all)
-
-rising_tail : (n : ℕ) (ns : List ℕ) → IsRising (n ∷ ns) → IsRising ns
-rising_tail n [] rising = tt
-rising_tail n (m ∷ ns) rising = rising.1
 
 above : (n : ℕ) (xs : List (ℕ × Stamped)) (i : ℕ) (d : ℕ × Stamped) → IsRising (n ∷ numbers xs) → i < length xs → n < (get_or xs i d).0
 above n [] i d rising within = absurd (omega (arith, within))

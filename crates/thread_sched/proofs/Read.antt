@@ -21,9 +21,6 @@ pub record Behind (text : List ℕ) (entries : List Entry) (rest : List ℕ) : T
   pub whole : text ≡ schedule_text entries ++ rest
   pub follow : (all : List Entry) → AllByRecursion IsEntry all → IsText text all → (more : List Entry) × (all ≡ entries ++ more) × IsText rest more
 
-pub behind_none : (text : List ℕ) → Behind text [] text
-behind_none text = record { fit = tt; whole = refl; follow = λ all fit is. (all, refl, is) }
-
 -- a line has a byte, and none that ends it
 entry_some : (e : Entry) → IsEntry e → entry_text e ≡ [] → ⊥
 entry_some e fits is = absurd (omega (arith, ap length is, length-append (decimal e.tid ++ codes " ") (decimal e.most), length-append (decimal e.tid) (codes " "), decimal_nonempty e.most (omega (arith, fits.most))))

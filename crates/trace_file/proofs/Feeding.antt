@@ -209,10 +209,6 @@ pub fed_part : (s mid new : ReaderState) (piece : List ℕ) (i n : ℕ) (es es' 
 fed_part s mid new piece i n es es' es'' low first second =
     subst (λ p. HasFed s new p es es'') (take_part i n piece low) (fed_more s mid new (take i piece) (take n (drop i piece)) es es' es'' first second)
 
-pub fed_behind_part : (s mid new : ReaderState) (piece : List ℕ) (i : ℕ) (es es' es'' : List Event) → HasFed s mid (take i piece) es es' → HasFed mid new (drop i piece) es' es'' → HasFed s new piece es es''
-fed_behind_part s mid new piece i es es' es'' first second =
-    subst (λ p. HasFed s new p es es'') (take-append-drop i piece) (fed_more s mid new (take i piece) (drop i piece) es es' es'' first second)
-
 pub wants_part : (s new : ReaderState) (piece : List ℕ) (n : ℕ) (es es' : List Event) → RunsOutOfMemory HasRead s new (take n piece) es es' → RunsOutOfMemory HasRead s new piece es es'
 wants_part s new piece n es es' wants = record {
   more = wants.more;

@@ -1,4 +1,3 @@
-pub mod Texts
 pub mod OneNumber
 pub mod Heads
 pub mod Lengths

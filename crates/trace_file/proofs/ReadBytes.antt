@@ -40,7 +40,7 @@ goes_on_nothing : (f : Option Finish) → GoesOn f []
 goes_on_nothing None = begun_nothing
 goes_on_nothing (Some f) = refl
 
-text_more : (rs : List Record) (r : Record) → text_of (rs ++ r ∷ []) ≡ text_of rs ++ record_bytes r
+pub text_more : (rs : List Record) (r : Record) → text_of (rs ++ r ∷ []) ≡ text_of rs ++ record_bytes r
 text_more rs r =
     ap (λ y. magic ++ y) (flat_map-append record_bytes rs (r ∷ []) ∙ ap (λ y. flat_map record_bytes rs ++ y) (append-nil (record_bytes r)))
     ∙ sym (append_assoc magic (flat_map record_bytes rs) (record_bytes r))

@@ -8,7 +8,7 @@ ghost use Rattle.trace_model.specs.WellFormed.{IsWellFormed};
 ghost use Rattle.trace_order.specs.Order.{MayCome};
 ghost use Rattle.trace_file.specs.declared.records.Record.TheVariants.{OfEvent, OfName, OfFinish};
 ghost use Rattle.trace_file.specs.Records.{Fits, joined, number_bytes, record_bytes};
-ghost use Rattle.trace_file.specs.Private.Kept.{KeepsOn};
+ghost use Rattle.guest_words.specs.Texts.{KeepsOn};
 ghost use Rattle.trace_file.specs.TraceText.{IsRising, IsTextOf, IsTrace, name_records, trace_text};
 
 use crate::records::MAGIC;
@@ -44,7 +44,7 @@ fn push_number(text: &mut Vec<u8>, number: u32) -> Result<(), AllocError>
 }
 
 // Appends numbers.
-#[tactic(auto, using(crate::proofs::Texts::keeps, crate::proofs::Texts::keeps_same, crate::proofs::Texts::keeps_further))]
+#[tactic(auto, using(guest_words::proofs::Texts::keeps, guest_words::proofs::Texts::keeps_same, guest_words::proofs::Texts::keeps_further))]
 fn push_numbers(text: &mut Vec<u8>, numbers: &[u32]) -> Result<(), AllocError>
     ensures ok { OnOk result (text.new.items
         ≡ text.old.items ++ flat_map number_bytes numbers.now) }
@@ -57,7 +57,7 @@ fn push_numbers(text: &mut Vec<u8>, numbers: &[u32]) -> Result<(), AllocError>
 }
 
 // Appends a head, numbers and bytes.
-#[tactic(auto, using(crate::proofs::Texts::keeps, crate::proofs::Texts::keeps_same, crate::proofs::Texts::keeps_further))]
+#[tactic(auto, using(guest_words::proofs::Texts::keeps, guest_words::proofs::Texts::keeps_same, guest_words::proofs::Texts::keeps_further))]
 fn push_parts(
     text: &mut Vec<u8>,
     head: &[u8],
@@ -74,7 +74,7 @@ fn push_parts(
 }
 
 // Appends a head, numbers and bytes, or nothing where there is no memory.
-#[tactic(auto, using(crate::proofs::Texts::put_back))]
+#[tactic(auto, using(guest_words::proofs::Texts::cut_back))]
 fn push_record(
     text: &mut Vec<u8>,
     head: &[u8],

@@ -8,7 +8,7 @@ use Rattle.trace_model.specs.declared.event_kinds.Event.{Event}
 use Rattle.trace_model.specs.declared.event_kinds.Event.TheVariants.{Step, Read}
 use Rattle.trace_model.specs.Events.{words_read, steps_run}
 use Rattle.trace_model.specs.Sizes.{count_pairs, cost}
-use Rattle.trace_model.specs.WellFormed.{weight, weight_of}
+use Rattle.trace_model.specs.WellFormed.{IsLight, IsWellFormed, weight, weight_of}
 
 pub weight-append : (xs ys : List Event) → weight (xs ++ ys) ≡ weight xs + weight ys
 weight-append [] ys = omega arith
@@ -66,3 +66,8 @@ count_range_more p a n = ap (count_by p) (range_with_len_more a n) ∙ sum_by_pu
 
 pub count_range-le : (p : ℕ → Bool) (a n : ℕ) → count_by p (range_with_len a n) ≤ n
 count_range-le p a n = omega (arith, count_by-le-length p (range_with_len a n), length-range_with_len a n)
+
+-- the events of a run weigh little
+pub light_formed : (past : List Event) → IsWellFormed past → IsLight past
+light_formed [] formed = omega arith
+light_formed (e ∷ past) formed = formed.1

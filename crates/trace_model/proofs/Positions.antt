@@ -58,9 +58,6 @@ event_before (e ∷ past) q p h =
       | inr some ↦ ap (λ es. event_at es p) (before_more e past q some) ∙ event_before past q p h ∙ sym (event_old e past p (omega (arith, some, h)))
     ]
 
-pub event_in_before : (past : List Event) (q p : ℕ) (e : Event) → event_at (before past q) p ≡ Some e → p < q
-event_in_before past q p e is = omega (arith, event_within (before past q) p e is, length-drop (length past - q) past)
-
 pub before_before : (past : List Event) (q p : ℕ) → p ≤ q → before (before past q) p ≡ before past p
 before_before past q p h =
     let k = length past - q in

@@ -7,7 +7,7 @@ use Rattle.trace_model.specs.Events.{thread_of}
 use Rattle.trace_model.specs.declared.event_kinds.Event.TheVariants.{Step, Read, Write, Fill, Call, Ret, Start, End}
 use Rattle.trace_model.specs.Observing.{with_steps}
 use Rattle.trace_model.specs.WellFormed.{IsWellFormed, MayFollow, greatest_start, is_live, weight, weight_of}
-use Rattle.trace_order.specs.Order.{IsOrderOf, MayCome, OrderState, is_among, is_start, progress_of}
+use Rattle.trace_order.specs.Order.{is_start}
 use Rattle.trace_order.specs.Progress.{Allows, IsAllowed, IsProgressOf, ProgressState, is_of_one, passed, passed_steps}
 
 follows : (e : Event) (lives : Bool) (p : ProgressState) (past : List Event) → IsProgressOf p past → lives ≡ is_of_one (is_live past) e → Allows e lives p ↔ MayFollow e past
@@ -33,11 +33,6 @@ of_one_same live also same (Some t) = same t
 
 pub allowed_by : (e : Event) (live : ℕ → Bool) (p : ProgressState) (past : List Event) → IsProgressOf p past → ((t : ℕ) → live t ≡ is_live past t) → IsAllowed e (is_of_one live e) p ↔ IsWellFormed (e ∷ past)
 allowed_by e live p past of same = allowed e (is_of_one live e) p past of (of_one_same live (is_live past) same (thread_of e))
-
--- and so does an order
-pub order_allows : (e : Event) (o : OrderState) (past : List Event) → IsOrderOf o past → MayCome o e ↔ IsWellFormed (e ∷ past)
-order_allows e o past of =
-    allowed_by e (is_among o.live) (progress_of o) past (record { last = of.last; greatest = of.greatest; weight = of.weight; formed = of.formed }) of.live
 
 -- and goes on with it
 pub passes : (e : Event) (p : ProgressState) (past : List Event) → IsProgressOf p past → IsWellFormed (e ∷ past) → IsProgressOf (passed e p) (e ∷ past)

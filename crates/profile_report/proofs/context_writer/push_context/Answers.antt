@@ -6,7 +6,8 @@ use Rattle.profile_report.specs.LineForms.{ended, point_line}
 use Rattle.context_tree.specs.Contexts.{contexts}
 use Rattle.context_tree.specs.Numbers.{numbered}
 use Rattle.context_tree.specs.Trees.{IsShown}
-use Rattle.profile_report.proofs.Texts.{keeps_either, keeps_further}
+use Rattle.guest_words.proofs.Texts.{keeps_further}
+use Rattle.profile_report.proofs.Texts.{keeps_either}
 use Rattle.profile_report.proofs.ToldContexts.{lines_of}
 use Rattle.profile_report.proofs.context_writer.push_context.Goals as goal
 

@@ -10,8 +10,8 @@ use Rattle.context_tree.specs.Contexts.{contexts}
 use Rattle.context_tree.specs.Numbers.{numbered}
 use Rattle.context_tree.proofs.Listed.{as_long}
 use Rattle.profile_report.specs.ContextText.{context_text}
-use Rattle.profile_report.specs.Private.Kept.{KeepsOn}
-use Rattle.profile_report.proofs.Texts.{keeps_further, keeps_same}
+use Rattle.guest_words.specs.Texts.{KeepsOn}
+use Rattle.guest_words.proofs.Texts.{keeps_further, keeps_same}
 use Rattle.profile_report.proofs.ToldContexts.{StandsAt, none_some, same_context, stands_first, stands_next, told_more}
 use Rattle.profile_report.proofs.context_writer.push_each.Goals as goal
 use Rattle.profile_report.proofs.context_writer.push_each.Goals.{in-Some+in_ok-push_context, in_default}

@@ -5,7 +5,7 @@ use Rattle.context_tree.specs.Contexts.{contexts}
 use Rattle.context_tree.specs.Order.{IsInOrder}
 use Rattle.context_tree.specs.Trees.{TreeStandsFor}
 use Rattle.profile_report.specs.ContextText.{context_text}
-use Rattle.profile_report.specs.Private.Kept.{KeepsOn}
+use Rattle.guest_words.specs.Texts.{KeepsOn}
 use Rattle.profile_report.proofs.ToldContexts.{StandsAt}
 use Rattle.profile_report.proofs.context_writer.push_each.Given as goal
 

@@ -1,6 +1,6 @@
 use Rattle.std.proofs.Common.{rules, append_assoc}
 use Rattle.std.proofs.lemmas.Result.{IfOk-equal}
-use Rattle.profile_report.proofs.Texts.{keeps, keeps_further}
+use Rattle.guest_words.proofs.Texts.{keeps, keeps_further}
 use Rattle.profile_report.proofs.line_text.push_point.Goals as goal
 
 pub returns-clause-ok : goal.returns-clause-ok
