@@ -228,6 +228,7 @@ fn finish_status(finish: Finish) -> u8
     }
 }
 
+// The status of a verdict.
 fn verdict_status(verdict: Verdict) -> u8
     ensures { result ≡ verdict_status verdict }
 {

@@ -22,6 +22,7 @@ pub(crate) enum Text {
 }
 
 impl Text {
+    /// The bytes of the text.
     pub(crate) fn as_slice(&self) -> &[u8]
         ensures { result.now ≡ bytes_of self.now }
     {
@@ -39,6 +40,7 @@ pub(crate) fn cannot_read_text(alloc: Global, path: &str) -> Result<Text, AllocE
     Ok(Text::Made(format!(in alloc; "aprof: cannot read {path}\n")?.into_bytes()))
 }
 
+// The line that tells by its number why an executable is refused.
 fn image_text(alloc: Global, error: ElfError) -> Result<Text, AllocError>
     ensures { IfOk result (λ text. bytes_of text ≡ image_text error) }
 {
@@ -46,12 +48,14 @@ fn image_text(alloc: Global, error: ElfError) -> Result<Text, AllocError>
     Ok(Text::Made(format!(in alloc; "aprof: image {number}\n")?.into_bytes()))
 }
 
+// The line that tells the line of a schedule that is refused.
 fn schedule_text(alloc: Global, line: u64) -> Result<Text, AllocError>
     ensures { IfOk result (λ text. bytes_of text ≡ schedule_text line) }
 {
     Ok(Text::Made(format!(in alloc; "aprof: schedule {line}\n")?.into_bytes()))
 }
 
+// The line that tells by its number why a trace is refused.
 fn bad_trace_text(alloc: Global, error: TraceError) -> Result<Text, AllocError>
     ensures { IfOk result (λ text. bytes_of text ≡ bad_trace_text error) }
 {
@@ -59,6 +63,7 @@ fn bad_trace_text(alloc: Global, error: TraceError) -> Result<Text, AllocError>
     Ok(Text::Made(format!(in alloc; "aprof: trace {number}\n")?.into_bytes()))
 }
 
+// The line of a fault: its kind, its thread and its address.
 fn fault_text(alloc: Global, kind: FaultKind, tid: Tid, at: Addr) -> Result<Text, AllocError>
     ensures { IfOk result (λ text. bytes_of text ≡ fault_text kind tid at) }
 {
@@ -71,6 +76,7 @@ fn fault_text(alloc: Global, kind: FaultKind, tid: Tid, at: Addr) -> Result<Text
     Ok(Text::Made(text))
 }
 
+// The line on how a run ended, or nothing after an exit.
 fn finish_text(alloc: Global, finish: Finish) -> Result<Text, AllocError>
     ensures text { IfOk result (λ text. bytes_of text ≡ finish_text finish) }
     ensures made { OnErr result (IsMade (Decided (Ran finish))) }
@@ -92,6 +98,7 @@ pub(crate) fn renumberings_text(alloc: Global, count: u64) -> Result<Vec<u8>, Al
     Ok(format!(in alloc; "aprof: renumberings {count}\n")?.into_bytes())
 }
 
+/// The last text of a verdict.
 pub(crate) fn verdict_text(alloc: Global, verdict: Verdict) -> Result<Text, AllocError>
     ensures text { IfOk result (λ text. bytes_of text ≡ verdict_text verdict) }
     ensures made { OnErr result (IsMade (Decided verdict)) }

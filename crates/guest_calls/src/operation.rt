@@ -29,12 +29,14 @@ impl Operation {
         }
     }
 
+    /// Whether the thread waits at the futex.
     pub(crate) fn is_wait(self) -> bool
         ensures { result ≡ is_wait self }
     {
         matches!(self, Operation::Wait | Operation::WaitBitset)
     }
 
+    /// Whether waiting threads go to another futex.
     pub(crate) fn is_requeue(self) -> bool
         ensures { result ≡ is_requeue self }
     {

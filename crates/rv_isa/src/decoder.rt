@@ -48,6 +48,7 @@ pub fn decode(word: u32) -> Option<Instr>
     }
 }
 
+// The words of the opcode JALR.
 #[tactic(auto, using(crate::proofs::Rows::jumps, std::proofs::lemmas::Bool::Decides::nat_tests))]
 fn jump_register(word: u32) -> Option<Instr>
     requires { opcode word ≡ 0x67 }
@@ -63,6 +64,7 @@ fn jump_register(word: u32) -> Option<Instr>
     }
 }
 
+// The words of the opcode BRANCH: funct3 tells the test.
 #[tactic(auto, using(crate::proofs::Rows::branches, std::proofs::lemmas::Bool::Decides::nat_tests))]
 fn branch(word: u32) -> Option<Instr>
     requires { opcode word ≡ 0x63 }
@@ -79,6 +81,7 @@ fn branch(word: u32) -> Option<Instr>
     }
 }
 
+// A branch by its test: the B-type.
 fn branch_on(test: Test, word: u32) -> Instr
     ensures instruction { result ≡ b_type (Instr.Branch test) word }
 {
@@ -90,6 +93,7 @@ fn branch_on(test: Test, word: u32) -> Instr
     }
 }
 
+// The words of the opcode LOAD: funct3 tells the width and the extension.
 #[tactic(auto, using(crate::proofs::Rows::loads, std::proofs::lemmas::Bool::Decides::nat_tests))]
 fn load(word: u32) -> Option<Instr>
     requires { opcode word ≡ 0x03 }
@@ -105,6 +109,7 @@ fn load(word: u32) -> Option<Instr>
     }
 }
 
+// A load by its kind: the I-type.
 fn load_of(kind: LoadKind, word: u32) -> Instr
     ensures instruction { result ≡ i_type (Instr.Load kind) word }
 {
@@ -116,6 +121,7 @@ fn load_of(kind: LoadKind, word: u32) -> Instr
     }
 }
 
+// The words of the opcode STORE: funct3 tells the width.
 #[tactic(auto, using(crate::proofs::Rows::stores, std::proofs::lemmas::Bool::Decides::nat_tests))]
 fn store(word: u32) -> Option<Instr>
     requires { opcode word ≡ 0x23 }
@@ -129,6 +135,7 @@ fn store(word: u32) -> Option<Instr>
     }
 }
 
+// A store by its kind: the S-type.
 fn store_of(kind: StoreKind, word: u32) -> Instr
     ensures instruction { result ≡ s_type (Instr.Store kind) word }
 {
@@ -140,6 +147,7 @@ fn store_of(kind: StoreKind, word: u32) -> Instr
     }
 }
 
+// The words of the opcode OP-IMM: funct3 tells the operation.
 #[tactic(auto, using(crate::proofs::Rows::immediates, std::proofs::lemmas::Bool::Decides::nat_tests))]
 fn immediate(word: u32) -> Option<Instr>
     requires { opcode word ≡ 0x13 }
@@ -158,6 +166,7 @@ fn immediate(word: u32) -> Option<Instr>
     }
 }
 
+// An operation on a register and an immediate: the I-type.
 fn with_immediate(op: ImmOp, word: u32) -> Instr
     ensures instruction { result ≡ i_type (Instr.Immediate op) word }
 {
@@ -169,6 +178,7 @@ fn with_immediate(op: ImmOp, word: u32) -> Instr
     }
 }
 
+// The shift to the left by an immediate. Its upper seven bits are 0.
 #[tactic(auto, using(crate::proofs::Rows::left_shifts, std::proofs::lemmas::Bool::Decides::nat_tests))]
 fn shift_left(word: u32) -> Option<Instr>
     requires operation { opcode word ≡ 0x13 }
@@ -181,6 +191,7 @@ fn shift_left(word: u32) -> Option<Instr>
     }
 }
 
+// The shifts to the right by an immediate: the upper seven bits tell the logical from the arithmetic one.
 #[tactic(auto, using(crate::proofs::Rows::right_shifts, std::proofs::lemmas::Bool::Decides::nat_tests))]
 fn shift_right(word: u32) -> Option<Instr>
     requires operation { opcode word ≡ 0x13 }
@@ -194,6 +205,7 @@ fn shift_right(word: u32) -> Option<Instr>
     }
 }
 
+// A shift by its amount, which stands where rs2 does in other words.
 fn shift_by(op: ImmOp, word: u32) -> Instr
     ensures instruction { result ≡ shift_type (Instr.Immediate op) word }
 {
@@ -205,6 +217,7 @@ fn shift_by(op: ImmOp, word: u32) -> Instr
     }
 }
 
+// The words of the opcode OP: funct7 tells the group of operations.
 #[tactic(auto, using(crate::proofs::Rows::no_registers, std::proofs::lemmas::Bool::Decides::nat_tests))]
 fn register(word: u32) -> Option<Instr>
     requires { opcode word ≡ 0x33 }
@@ -218,6 +231,7 @@ fn register(word: u32) -> Option<Instr>
     }
 }
 
+// The operations of RV32I on two registers, but for those of `alternate_op`.
 #[tactic(auto, using(crate::proofs::Rows::base_registers, std::proofs::lemmas::Bool::Decides::nat_tests))]
 fn integer_op(word: u32) -> Option<Instr>
     requires operation { opcode word ≡ 0x33 }
@@ -237,6 +251,7 @@ fn integer_op(word: u32) -> Option<Instr>
     }
 }
 
+// SUB and SRA, which differ from ADD and SRL in one bit of funct7.
 #[tactic(auto, using(crate::proofs::Rows::alternate_registers, std::proofs::lemmas::Bool::Decides::nat_tests))]
 fn alternate_op(word: u32) -> Option<Instr>
     requires operation { opcode word ≡ 0x33 }
@@ -250,6 +265,7 @@ fn alternate_op(word: u32) -> Option<Instr>
     }
 }
 
+// The M extension: products, quotients and remainders.
 #[tactic(auto, using(crate::proofs::Rows::multiplications, std::proofs::lemmas::Bool::Decides::nat_tests))]
 fn multiply(word: u32) -> Option<Instr>
     requires operation { opcode word ≡ 0x33 }
@@ -269,6 +285,7 @@ fn multiply(word: u32) -> Option<Instr>
     }
 }
 
+// An operation on two registers: the R-type.
 fn on_registers(op: RegOp, word: u32) -> Instr
     ensures instruction { result ≡ r_type (Instr.Register op) word }
 {
@@ -280,6 +297,7 @@ fn on_registers(op: RegOp, word: u32) -> Instr
     }
 }
 
+// The words of the opcode AMO. RV32A has those of 32 bits alone.
 #[tactic(auto, using(crate::proofs::Rows::no_atomics, std::proofs::lemmas::Bool::Decides::nat_tests))]
 fn atomic(word: u32) -> Option<Instr>
     requires { opcode word ≡ 0x2F }
@@ -291,6 +309,7 @@ fn atomic(word: u32) -> Option<Instr>
     }
 }
 
+// The A extension: funct5 tells the operation.
 #[tactic(auto, using(crate::proofs::Rows::atomics, std::proofs::lemmas::Bool::Decides::nat_tests))]
 fn atomic_word(word: u32) -> Option<Instr>
     requires operation { opcode word ≡ 0x2F }
@@ -313,6 +332,7 @@ fn atomic_word(word: u32) -> Option<Instr>
     }
 }
 
+// LR.W, which has no second source: that field is 0.
 #[tactic(auto, using(crate::proofs::Rows::load_reservations, std::proofs::lemmas::Bool::Decides::nat_tests))]
 fn load_reserved(word: u32) -> Option<Instr>
     requires operation { opcode word ≡ 0x2F }
@@ -326,6 +346,7 @@ fn load_reserved(word: u32) -> Option<Instr>
     }
 }
 
+// An atomic operation, with its bits aq and rl.
 fn atomic_of(op: AtomicOp, word: u32) -> Instr
     ensures instruction { result ≡ atomic_type (Instr.Atomic op) word }
 {
@@ -338,6 +359,7 @@ fn atomic_of(op: AtomicOp, word: u32) -> Instr
     }
 }
 
+// The words of the opcode MISC-MEM: the other fields of a fence are ignored.
 #[tactic(auto, using(crate::proofs::Rows::fences, std::proofs::lemmas::Bool::Decides::nat_tests))]
 fn fence(word: u32) -> Option<Instr>
     requires { opcode word ≡ 0x0F }
@@ -350,6 +372,7 @@ fn fence(word: u32) -> Option<Instr>
     }
 }
 
+// The words of the opcode SYSTEM that are taken: ECALL and EBREAK.
 #[tactic(auto, using(crate::proofs::Rows::environment, std::proofs::lemmas::Bool::Decides::nat_tests))]
 fn system(word: u32) -> Option<Instr>
     requires { opcode word ≡ 0x73 }

@@ -46,36 +46,42 @@ fn register(word: u32, low: u32) -> Reg
     Reg::named_by(bits(word, low + 4, low))
 }
 
+/// The field rd.
 pub(crate) fn destination(word: u32) -> Reg
     ensures number { result ≡ rd word }
 {
     register(word, 7)
 }
 
+/// The field rs1.
 pub(crate) fn first_source(word: u32) -> Reg
     ensures number { result ≡ rs1 word }
 {
     register(word, 15)
 }
 
+/// The field rs2.
 pub(crate) fn second_source(word: u32) -> Reg
     ensures number { result ≡ rs2 word }
 {
     register(word, 20)
 }
 
+/// The immediate of an I-type word: 12 bits, of which the topmost is the sign.
 pub(crate) fn immediate_i(word: u32) -> i32
     ensures value { result ≡ immediate_i word }
 {
     sign_extended(bits(word, 31, 20), 1 << 11)
 }
 
+/// The immediate of an S-type word: 12 bits in two parts.
 pub(crate) fn immediate_s(word: u32) -> i32
     ensures value { result ≡ immediate_s word }
 {
     sign_extended(bits(word, 31, 25) << 5 | bits(word, 11, 7), 1 << 11)
 }
 
+/// The offset of a B-type word: 13 bits in four parts, of which the lowest is 0.
 pub(crate) fn immediate_b(word: u32) -> i32
     ensures value { result ≡ immediate_b word }
 {
@@ -84,12 +90,14 @@ pub(crate) fn immediate_b(word: u32) -> i32
     sign_extended(high << 11 | low << 1, 1 << 12)
 }
 
+/// The immediate of a U-type word: the upper 20 bits, and zeros below them.
 pub(crate) fn immediate_u(word: u32) -> u32
     ensures value { result ≡ immediate_u word }
 {
     word >> 12
 }
 
+/// The offset of a J-type word: 21 bits in four parts, of which the lowest is 0.
 pub(crate) fn immediate_j(word: u32) -> i32
     ensures value { result ≡ immediate_j word }
 {

@@ -89,6 +89,7 @@ fn push_byte(held: &mut Vec<u8>, byte: u8)
 }
 
 impl TraceReader {
+    // Takes an event, where the order of events allows it.
     fn add_event(&mut self, e: Event, events: &mut Events) -> Result<(), TraceError>
         requires begun { (past : List Event) × IsOpen self.old past }
         requires fits { Fits (OfEvent e) }
@@ -111,6 +112,7 @@ impl TraceReader {
         Ok(())
     }
 
+    // Takes the name of a routine, where its entry is above those before it.
     fn add_name(&mut self, entry: Addr, name: Name) -> Result<(), TraceError>
         requires begun { (past : List Event) × IsOpen self.old past }
         requires fits { Fits (OfName entry name) }
@@ -144,6 +146,7 @@ impl TraceReader {
         }
     }
 
+    // Takes how the run ended.
     fn add_finish(&mut self, f: Finish)
         requires fits { Fits (OfFinish f) }
         ensures { (past : List Event) → IsOpen self.old past
@@ -152,6 +155,7 @@ impl TraceReader {
         self.finish = Some(f);
     }
 
+    // Takes a record, where records may have it at this place.
     fn add_record(&mut self, next: Record, events: &mut Events) -> Result<(), TraceError>
         requires begun { (past : List Event) × IsOpen self.old past }
         requires fits { Fits next }
