@@ -72,16 +72,15 @@ def run(options: argparse.Namespace) -> int:
     profile = joined(reports)
     demangle(profile.routines)
     shorten(profile.routines)
-    rows = rows_of(profile)
     if options.against is not None and options.page is None:
-        return compare(options, profile, rows, names)
+        return compare(options, profile, names)
     wanted = all_named(profile.routines, names)
     check(options, names, kind_of(options, names))
     warn([*repeated(profile.reports), *strangers(profile.reports), *without_contexts(profile.reports)])
     check_order(options.by, profile)
     if options.fail_above is not None:
-        return judge(profile, rows, options, wanted)
-    return show(options, profile, rows, wanted, lines)
+        return judge(profile, rows_of(profile), options, wanted)
+    return show(options, profile, wanted, lines)
 
 
 def warn(warnings: Iterable[str]) -> None:
@@ -102,14 +101,12 @@ def caches_text(reports: Sequence[Report | CacheReport], options: argparse.Names
     return cache_text(cache, choice_of(options), width(), {routine.entry: routine.label for routine in routines})
 
 
-def show(
-    options: argparse.Namespace, profile: Profile, rows: Sequence[Row], wanted: set[Routine], lines: dict[int, str]
-) -> int:
+def show(options: argparse.Namespace, profile: Profile, wanted: set[Routine], lines: dict[int, str]) -> int:
     if options.page is not None:
         check_page(options.page, [report.path for report in profile.reports], options.image)
-        page.write_page(options.page, profile, rows, lines)
+        page.write_page(options.page, profile, rows_of(profile), lines)
     elif options.json:
-        print(json_text(profile, rows, wanted))
+        print(json_text(profile, rows_of(profile), wanted))
     elif options.csv:
         print(csv_text(profile, wanted))
     elif options.open:
@@ -117,13 +114,13 @@ def show(
     elif options.tree or options.callers or options.folded or options.callgrind:
         show_contexts(options, profile, roots_of(profile), wanted, lines)
     elif wanted:
-        chosen = [row for row in rows if row.routine in wanted]
+        chosen = [row for row in rows_of(profile) if row.routine in wanted]
         for row in chosen:
             print_lines(detail(row, width(), lines.get(row.routine.entry)))
             print_lines(plot(row.routine, width()) if options.plot else [])
         print_lines(notes(chosen, width()))
     else:
-        print_lines(summary(profile, rows, choice_of(options), width()))
+        print_lines(summary(profile, rows_of(profile), choice_of(options), width()))
     return 0
 
 
@@ -156,11 +153,11 @@ def show_contexts(
             print_lines(callers_text(profile, roots, routine, least, width()))
 
 
-def compare(options: argparse.Namespace, new: Profile, new_rows: Sequence[Row], names: Sequence[str]) -> int:
+def compare(options: argparse.Namespace, new: Profile, names: Sequence[str]) -> int:
     old = joined(read_all([options.against]))
     demangle(old.routines)
     shorten(old.routines)
-    old_rows = rows_of(old)
+    old_rows, new_rows = rows_of(old), rows_of(new)
     wanted = all_named([*new.routines, *old.routines], names)
     check(options, names, kind_of(options, names))
     for reports in (old.reports, new.reports):

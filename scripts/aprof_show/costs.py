@@ -132,7 +132,7 @@ def chain_of(context: Context) -> list[Context]:
     return chain[::-1]
 
 
-def open_ends(roots: Sequence[Context], costs: dict[Context, Cost]) -> list[Context]:
+def open_ends(roots: Sequence[Context], costs: Mapping[Context, Cost]) -> list[Context]:
     """The innermost contexts that surely were open at the end of a report."""
     return [context for context in contexts_of(roots) if costs[context].ends]
 

@@ -9,7 +9,7 @@ Three estimates are made, of the greatest cost at each size, and the growth is t
   off. None is taken off where a line without it lies nearly as close.
 
 Two things are told besides. Where the slopes rise from doubling to doubling, a part is still small that will be all of the cost:
-`rising` is the last slope (bends.py). And where a few dear calls of middle sizes make the greatest cost seem to grow less than
+`rising` is the last slope (bends.py). And where a few costly calls of middle sizes make the greatest cost seem to grow less than
 linearly, the mean tells more, and the estimates are of that.
 """
 from __future__ import annotations
@@ -185,7 +185,7 @@ def net_spots(spots: Sequence[Spot]) -> list[Spot]:
 
 def flattens(spots: Sequence[Spot]) -> bool:
     """Whether a steep growth isn't one at its end: its last doubling is no steeper than n log n, or its words are dearer below the
-    largest sizes than at them. A few dear calls of middle sizes, as of malloc's slow path, look so."""
+    largest sizes than at them. A few costly calls of middle sizes, as of malloc's slow path, look so."""
     net = net_spots(spots)
     if len(net) < 2:
         return False

@@ -24,8 +24,8 @@ one longer run.
 
 NOTES = """GROWTH is how many times the greatest cost of a call grows where its size doubles:
 near 2 is linear, near 4 quadratic; `-` where there is at most one size other than 0.
-Where a few dear calls bend the greatest cost, it is of the mean: the routine's own
-lines tell. Beside it stand
+Where a few costly calls distort the greatest cost, it is that of the mean: the
+routine's own lines tell. Beside it stand
 """
 
 REST = """WITH CALLEES is the part of all instructions that is spent in the routine and in what

@@ -11,7 +11,7 @@ from collections.abc import Mapping, Sequence
 from pathlib import Path
 from typing import Any
 
-from aprof_show.costs import chain_text, contexts_of, costs_of, open_ends
+from aprof_show.costs import Cost, chain_text, contexts_of, costs_of, open_ends
 from aprof_show.ends import ended
 from aprof_show.growth import Growth, factor_of, growth_of
 from aprof_show.joining import points_of
@@ -62,13 +62,14 @@ def library() -> str:
 
 def json_of(profile: Profile, rows: Sequence[Row], lines: Mapping[int, str]) -> Json:
     places = {row.routine: place for place, row in enumerate(rows)}
+    costs = costs_of(profile.roots or [])
     return {
         "reports": [report_json(report) for report in profile.reports],
         "steps": profile.steps,
         "open": profile.still_open,
         "routines": [row_json(row, lines.get(row.routine.entry), places) for row in rows],
-        "chains": chains_json(profile.roots or []),
-        "contexts": None if profile.roots is None else contexts_json(profile.roots, rows, places),
+        "chains": [chain_text(context) for context in open_ends(profile.roots or [], costs)],
+        "contexts": None if profile.roots is None else contexts_json(profile.roots, costs, rows, places),
         "callers": callers_json(profile.roots or [], places),
     }
 
@@ -148,9 +149,8 @@ def columns_of(points: Sequence[Point]) -> list[Any]:
     return [[point.size for point in points], *packed]
 
 
-def contexts_json(roots: Sequence[Context], rows: Sequence[Row], places: Places) -> Json:
+def contexts_json(roots: Sequence[Context], costs: Mapping[Context, Cost], rows: Sequence[Row], places: Places) -> Json:
     """A column for each fact, each context before those under it, and which of them were open at the end."""
-    costs = costs_of(roots)
     contexts = list(contexts_of(roots))
     numbers = {context: number for number, context in enumerate(contexts)}
     times = Counter(context.routine for context in contexts)
@@ -168,11 +168,6 @@ def contexts_json(roots: Sequence[Context], rows: Sequence[Row], places: Places)
         "growth": [growth_json(growth(context)) for context in contexts],
         "open": [number for number, context in enumerate(contexts) if costs[context].open],
     }
-
-
-def chains_json(roots: Sequence[Context]) -> list[str]:
-    """The calls that had not returned at the end."""
-    return [chain_text(context) for context in open_ends(roots, costs_of(roots))]
 
 
 def callers_json(roots: Sequence[Context], places: Places) -> list[list[Any]]:
