@@ -1,3 +1,2 @@
 -- What private functions promise one another. No public clause rests on it.
 pub mod Lines
-pub mod Kept

@@ -1,5 +1,4 @@
 -- What private functions promise one another. No public clause rests on it.
-pub mod Kept
 pub mod Made
 pub mod Seen
 pub mod Steps
