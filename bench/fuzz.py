@@ -98,9 +98,10 @@ def broken(rng: random.Random, files: Sequence[bytes]) -> bytes:
     return bytes(data)
 
 
-def limit_memory() -> None:
-    """What the child does before it becomes the program."""
+def limit() -> None:
+    """What the child does before it becomes the program. A run that hangs ends by a signal, which no status of the table is."""
     resource.setrlimit(resource.RLIMIT_AS, (MEMORY, MEMORY))
+    resource.setrlimit(resource.RLIMIT_CPU, (10, 10))
 
 
 def runs(program: Path, files: Iterator[bytes]) -> Iterator[tuple[bytes, Ended]]:
@@ -110,7 +111,7 @@ def runs(program: Path, files: Iterator[bytes]) -> Iterator[tuple[bytes, Ended]]
         folder = Path(made)
         for data in files:
             (folder / "img").write_bytes(data)
-            yield data, host.run(words, folder=folder, stderr=subprocess.DEVNULL, before=limit_memory)
+            yield data, host.run(words, folder=folder, stderr=subprocess.DEVNULL, before=limit)
 
 
 @dataclass

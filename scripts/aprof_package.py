@@ -112,20 +112,21 @@ def sources_of(top: Path) -> list[str]:
 
 def changed(top: Path) -> str:
     """A file that is not as in the last commit: of what is packed or of what the program is built from."""
-    words = ("git", "status", "--porcelain", "--untracked-files=no", "--", *dict.fromkeys(TOOLS + TEXTS), "crates", "crates.txt")
-    return next((line[3:] for line in output_of(*words, top=top).splitlines()), "")
+    places = (*dict.fromkeys(TOOLS + TEXTS), "crates", "crates.txt", "HANDLES")
+    lines = output_of("git", "status", "--porcelain", "--untracked-files=all", "--", *places, top=top).splitlines()
+    # a new file is one of the program only where it is a source
+    return next((line[3:] for line in lines if not line.startswith("??") or line.endswith((".rt", ".antt"))), "")
 
 
 def newer_source(top: Path) -> Path | None:
-    """A source of the program that changed after it was built: the launcher's rule."""
+    """A source of the program that changed after it was built. The launcher has this rule too, and looks at folders: a source
+    that is gone is one that isn't as in the commit."""
     built = (top / STAMP).stat().st_mtime_ns
+    found = [top / "crates.txt", top / "HANDLES"]
     for folder, folders, files in os.walk(top / "crates"):
         folders[:] = [name for name in folders if name != "out"]
-        for name in files:
-            path = Path(folder, name)
-            if path.suffix in (".rt", ".antt") and path.stat().st_mtime_ns > built:
-                return path
-    return None
+        found += [Path(folder, name) for name in files if name.endswith((".rt", ".antt"))]
+    return next((path for path in found if path.exists() and path.stat().st_mtime_ns > built), None)
 
 
 def check(top: Path) -> None:

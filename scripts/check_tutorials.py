@@ -211,6 +211,9 @@ def main() -> int:
         sys.exit(f"check_tutorials: {program} is not built")
     folders = [path.parent for path in sorted(TUTORIALS.glob("*/README.md"))]
     chosen = [folder for folder in folders if folder.name in options.tutorials or not options.tutorials]
+    unknown = set(options.tutorials) - {folder.name for folder in chosen}
+    if unknown:
+        sys.exit(f"check_tutorials: no tutorial {min(unknown)}")
     with tempfile.TemporaryDirectory() as scratch:
         commands = commands_folder(Path(scratch, "commands"), program)
         results = [check(folder, commands, Path(scratch), options.fresh) for folder in chosen]

@@ -42,7 +42,7 @@ def build_program(top: Path) -> int:
         print("aprof: the build was stopped; the next one goes on from here", file=sys.stderr)
         raise
     except OSError as error:
-        print(f"aprof: the build failed: {error.filename}: {error.strerror}", file=sys.stderr)
+        print("aprof: the build failed: " + ": ".join(filter(None, (error.filename, error.strerror))), file=sys.stderr)
     return FAILED
 
 

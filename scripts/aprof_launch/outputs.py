@@ -14,7 +14,7 @@ from aprof_launch.images import is_elf
 from aprof_launch.places import why_barred
 from aprof_launch.words import Words
 
-RECORDING = re.compile(rb"(?:[0-9]{1,2} [0-9]+\n)*(?:[0-9]{1,2}(?: [0-9]*)?)?\Z")
+RECORDING = re.compile(rb"(?:[0-9]{1,7} [0-9]+\n)*(?:[0-9]{1,7}(?: [0-9]*)?)?\Z")
 
 
 def problem(path: str) -> str:

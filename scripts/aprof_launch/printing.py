@@ -17,8 +17,13 @@ def plain(text: str) -> str:
 
 def say(line: str) -> None:
     """A line on standard error, where there is one."""
-    if sys.stderr is not None:
-        print(plain(line), file=sys.stderr)
+    if sys.stderr is None:
+        return
+    try:
+        print(plain(line), file=sys.stderr, flush=True)
+    except OSError:
+        # The step's status is told all the same: that of `check` keeps a file from being overwritten.
+        os.dup2(os.open(os.devnull, os.O_WRONLY), sys.stderr.fileno())
 
 
 def print_out(text: str) -> int:

@@ -3,6 +3,7 @@ from __future__ import annotations
 
 import os
 import signal
+import sys
 from pathlib import Path
 
 from aprof_copy.called import launcher
@@ -70,6 +71,8 @@ def build_step(words: list[str]) -> int:
     """The top of the repository, and the launcher with its words, which is started where the program is built."""
     from aprof_launch.build import build_program
 
+    if sys.stderr is None:
+        sys.stderr = open(os.devnull, "w")
     status = build_program(Path(words[0]))
     if status:
         return status

@@ -8,6 +8,7 @@ import subprocess
 from bisect import bisect_right
 from collections.abc import Sequence
 from dataclasses import dataclass
+from functools import cache
 
 from aprof_show.model import Routine
 from aprof_show.source import BadImage, demangle, read_symbols
@@ -64,6 +65,7 @@ def line_at(image: str, addresses: Sequence[int]) -> str | None:
     return None
 
 
+@cache
 def place_text(image: str, address: int) -> str | None:
     """`in look, dead.c:20`, or as much of it as is known."""
     place = place_of(image, address)

@@ -78,14 +78,13 @@ def causes_of(
     """The cause of each routine of `totals` that has one; these are the routines' costs, calls nested in one another once.
     `library` has the routines of the C library."""
     causes = {routine: Cause(found) for routine, found in dearest_below(roots, costs, totals, Bearers(growth_of, library))}
-    callers: dict[Routine, list[Routine]] = {}
+    callers: dict[Routine, set[Routine]] = {}
     for routine, cause in causes.items():
-        callers.setdefault(cause.routine, []).append(routine)
+        callers.setdefault(cause.routine, set()).add(routine)
     for way in ways_of(roots):
         context = way.path[-1]
-        for routine in callers.get(context.routine, ()):
-            if routine in way.depths:
-                causes[routine].add(way, routine, costs[context])
+        for routine in way.depths.keys() & callers.get(context.routine, set()):
+            causes[routine].add(way, routine, costs[context])
     for routine, cause in causes.items():
         cause.close(totals[routine])
     return causes

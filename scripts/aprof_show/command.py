@@ -13,17 +13,17 @@ from aprof_show.data import csv_text, json_text
 from aprof_show.detail import detail, notes
 from aprof_show.heading import fault_lines, open_lines
 from aprof_show.inputs import ROUTINE_HINT, joined, name_by_image, read_all
-from aprof_show.joining import CannotJoin, join_caches
+from aprof_show.joining import CannotJoin, join_caches, tell_alike
 from aprof_show.kinship import many_new, repeated, strange_pair, strangers, without_contexts
-from aprof_show.limits import above, above_text, not_judged, unreturned
+from aprof_show.limits import above, above_text, not_judged, unjudged, unreturned
 from aprof_show.model import CacheReport, Context, Profile, Report, Routine
 from aprof_show.names import shorten
 from aprof_show.options import choice_of, parser
-from aprof_show.output import drop_output, error_text, print_lines
+from aprof_show.output import drop_output, error_text, print_lines, say
 from aprof_show.plot import plot
 from aprof_show.reading import BadReport
 from aprof_show.rows import WRITERS, Row, rows_of
-from aprof_show.source import BadImage, demangle, name_routines, read_symbols
+from aprof_show.source import BadImage, demangle, lines_of_image, name_routines, read_symbols
 from aprof_show.stacks import callgrind, folded
 from aprof_show.table import summary
 from aprof_show.terminal import width
@@ -34,7 +34,7 @@ from aprof_show.words import Refused, all_named, called_by, check, check_page, k
 def main(arguments: Sequence[str] | None = None) -> int:
     """The exit status."""
     if sys.stdout is None:
-        print("show: standard output is closed", file=sys.stderr)
+        say("standard output is closed")
         return 2
     if isinstance(sys.stdout, io.TextIOWrapper):
         sys.stdout.reconfigure(errors="replace")
@@ -43,14 +43,14 @@ def main(arguments: Sequence[str] | None = None) -> int:
         sys.stdout.flush()
         return status
     except (Refused, BadReport, BadImage, CannotJoin, page.MissingPackage) as error:
-        print(f"show: {error}", file=sys.stderr)
+        say(str(error))
     except KeyboardInterrupt:
         return 130
     except BrokenPipeError:
         drop_output()
         return 0
     except OSError as error:
-        print(f"show: {error_text(error)}", file=sys.stderr)
+        say(error_text(error))
         if error.filename is None:
             drop_output()
     return 2
@@ -68,10 +68,14 @@ def run(options: argparse.Namespace) -> int:
         check(options, names, "a report of `aprof cache`")
         print_lines(caches_text(reports, options))
         return 0
-    lines = name_by_image(reports, options.image) if options.image else {}
+    if options.image:
+        name_by_image(reports, options.image)
     profile = joined(reports)
+    wants_lines = options.image and (names or options.callgrind or options.page is not None)
+    lines = lines_of_image(options.image, (routine.entry for routine in profile.routines)) if wants_lines else {}
     demangle(profile.routines)
     shorten(profile.routines)
+    tell_alike(profile.routines)
     if options.against is not None and options.page is None:
         return compare(options, profile, names)
     wanted = all_named(profile.routines, names)
@@ -85,20 +89,23 @@ def run(options: argparse.Namespace) -> int:
 
 def warn(warnings: Iterable[str]) -> None:
     for warning in warnings:
-        print(f"show: warning: {warning}", file=sys.stderr)
+        say(f"warning: {warning}")
 
 
 def caches_text(reports: Sequence[Report | CacheReport], options: argparse.Namespace) -> list[str]:
     caches = [report for report in reports if isinstance(report, CacheReport)]
     if len(caches) < len(reports):
         raise CannotJoin("reports of `aprof cache` can't be joined with others")
+    warn(repeated(caches))
     cache = join_caches(caches)
     routines = [Routine(routine.entry, routine.name) for routine in cache.routines]
     if options.image:
         name_routines(routines, read_symbols(options.image), options.image)
     demangle(routines)
     shorten(routines)
-    return cache_text(cache, choice_of(options), width(), {routine.entry: routine.label for routine in routines})
+    tell_alike(routines)
+    labels = {counted: routine.label for counted, routine in zip(cache.routines, routines)}
+    return cache_text(cache, choice_of(options), width(), labels)
 
 
 def show(options: argparse.Namespace, profile: Profile, wanted: set[Routine], lines: dict[int, str]) -> int:
@@ -143,9 +150,9 @@ def show_contexts(
     least = 0.01 if options.min is None else options.min
     least = 0.0 if options.all else least
     if options.folded:
-        print_lines(list(folded(profile, roots)))
+        print_lines(folded(profile, roots))
     elif options.callgrind:
-        print_lines(list(callgrind(profile, roots, options.image, lines)))
+        print_lines(callgrind(profile, roots, options.image, lines))
     elif options.tree:
         print_lines(tree_text(profile, roots, least, width(), wanted))
     else:
@@ -157,6 +164,7 @@ def compare(options: argparse.Namespace, new: Profile, names: Sequence[str]) -> 
     old = joined(read_all([options.against]))
     demangle(old.routines)
     shorten(old.routines)
+    tell_alike(old.routines)
     old_rows, new_rows = rows_of(old), rows_of(new)
     wanted = all_named([*new.routines, *old.routines], names)
     check(options, names, kind_of(options, names))
@@ -168,7 +176,7 @@ def compare(options: argparse.Namespace, new: Profile, names: Sequence[str]) -> 
 
 
 def judge(profile: Profile, rows: Sequence[Row], options: argparse.Namespace, wanted: set[Routine]) -> int:
-    warn(unreturned(profile, wanted))
+    warn([*unreturned(profile, wanted), *unjudged(rows, wanted)])
     limit, choice = options.fail_above, choice_of(options)
     found = above(rows, limit, wanted, choice)
     print_lines([*above_text(found, limit), *not_judged(rows, limit, wanted, choice)])

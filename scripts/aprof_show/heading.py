@@ -9,16 +9,20 @@ from aprof_show.ends import FAULTS
 from aprof_show.model import Profile, Report
 from aprof_show.terminal import percent, plural
 
+MOST = 8
+"""So many ends, faults and chains of open calls are told of many reports."""
+
 MUCH = 0.05
 """From this part of all instructions on it is said that calls that had not returned spent it."""
 
 
 def head(profile: Profile) -> list[str]:
     ends = Counter(report.end for report in profile.reports)
-    texts = [f"end {end}" + (f" ({count})" if len(ends) > 1 else "") for end, count in ends.most_common()]
+    texts = [f"end {end}" + (f" ({count})" if len(ends) > 1 else "") for end, count in ends.most_common(MOST)]
+    texts += [f"{plural(len(ends) - MOST, 'other end')}"] * (len(ends) > MOST)
     reports = f"{len(profile.reports)} reports, " if len(profile.reports) > 1 else ""
     still_open = f"{profile.still_open} still open"
-    rare = [f"end {end}: {paths_text(profile, end)}" for end, _ in ends.most_common()[1:]]
+    rare = [f"end {end}: {paths_text(profile, end)}" for end, _ in ends.most_common(MOST)[1:]]
     return [f"{reports}{profile.steps} instructions, {', '.join(texts)}, {still_open}", *rare, *fault_lines(profile)]
 
 
@@ -30,7 +34,8 @@ def paths_text(profile: Profile, end: str) -> str:
 
 def fault_lines(profile: Profile) -> list[str]:
     """A line for each fault: `open_lines` may not have the routine where it was."""
-    return [fault_line(report) for report in profile.reports if report.end.startswith("fault")]
+    lines = list(dict.fromkeys(fault_line(report) for report in profile.reports if report.end.startswith("fault")))
+    return lines[:MOST] + [f"and {plural(len(lines) - MOST, 'more fault')}"] * (len(lines) > MOST)
 
 
 def fault_line(report: Report) -> str:
@@ -49,9 +54,9 @@ def open_lines(profile: Profile, room: int) -> list[str]:
     costs = costs_of(profile.roots)
     ends = open_ends(profile.roots, costs)
     chains = list(dict.fromkeys(chain_text(context) for context in ends))
-    lines = [line for chain in chains[:8] for line in wrapped(f"open at the end: {chain}", room)]
-    if len(chains) > 8:
-        lines.append(f"and {plural(len(chains) - 8, 'more chain')}")
+    lines = [line for chain in chains[:MOST] for line in wrapped(f"open at the end: {chain}", room)]
+    if len(chains) > MOST:
+        lines.append(f"and {plural(len(chains) - MOST, 'more chain')}")
     lines += wrapped(spent_text(rest_of(profile.steps, costs) / max(profile.steps, 1), len(ends)), room)
     if any(not link.routine.name and not link.routine.shown for context in ends for link in chain_of(context)):
         lines.append("--image IMAGE names the routines that never returned")

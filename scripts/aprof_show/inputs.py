@@ -10,7 +10,7 @@ from aprof_show.address import place_text
 from aprof_show.joining import CannotJoin, join
 from aprof_show.model import CacheReport, Profile, Report
 from aprof_show.reading import NotAReport, read_file
-from aprof_show.source import lines_of_image, name_routines, read_symbols
+from aprof_show.source import name_routines, read_symbols
 from aprof_show.words import Refused
 
 ROUTINE_HINT = " (for a routine called as a file: --routine NAME)"
@@ -47,12 +47,11 @@ def joined(reports: Sequence[Report | CacheReport]) -> Profile:
     return join(profiles)
 
 
-def name_by_image(reports: Sequence[Report | CacheReport], image: str) -> dict[int, str]:
-    """Names what has no name and where a fault was, and gives files and lines."""
+def name_by_image(reports: Sequence[Report | CacheReport], image: str) -> None:
+    """Names what has no name and where a fault was."""
     symbols = read_symbols(image)
     routines = [routine for report in reports if isinstance(report, Report) for routine in report.routines]
     name_routines(routines, symbols, image)
     for report in reports:
         if isinstance(report, Report) and report.end.startswith("fault"):
             report.place = place_text(image, int(report.end.split()[-1], 16))
-    return lines_of_image(image, (routine.entry for routine in routines))

@@ -30,11 +30,14 @@ def join(reports: Sequence[Report]) -> Profile:
     keys = keys_of(reports, one_image)
     joined: dict[Key, Routine] = {}
     sources: dict[Routine, set[str]] = {}
+    points: dict[Routine, list[Point]] = {}
     for report in reports:
         for routine in report.routines:
             new = joined.setdefault(keys[routine], Routine(routine.entry, routine.name, shown=routine.shown))
-            new.points = add_points(new.points, routine.points)
+            points.setdefault(new, []).extend(routine.points)
             sources.setdefault(new, set()).add(report.path)
+    for new, found in points.items():
+        new.points = add_points([], found)
     tell_apart(list(joined.values()), sources)
     roots = None
     if all(report.roots is not None for report in reports):
@@ -126,6 +129,14 @@ def tell_apart(routines: list[Routine], sources: dict[Routine, set[str]]) -> Non
             routine.apart = f"{routine.entry:08x}" if routine.name else ", ".join(sorted(sources.get(routine, ())))
 
 
+def tell_alike(routines: Sequence[Routine]) -> None:
+    """Gives routines whose labels are alike only as they are shown, such as two destructors of a class, their addresses."""
+    counts = Counter(routine.label for routine in routines)
+    for routine in routines:
+        if counts[routine.label] > 1 and not routine.apart:
+            routine.apart = f"{routine.entry:08x}"
+
+
 def join_contexts(reports: Sequence[Report], joined: dict[Routine, Routine]) -> list[Context]:
     """Contexts joined by their chains of joined routines, in the order in which they first come."""
     roots: list[Context] = []
@@ -139,9 +150,10 @@ def join_contexts(reports: Sequence[Report], joined: dict[Routine, Routine]) -> 
             if new is None:
                 new = places[caller, routine] = Context(routine, caller)
                 (caller.callees if caller else roots).append(new)
-            new.points = add_points(new.points, context.points)
             new.joined.append(context)
             below.extend((callee, new) for callee in reversed(context.callees))
+    for new in places.values():
+        new.points = points_of(new.joined)
     return roots
 
 

@@ -6,7 +6,7 @@ from collections.abc import Iterator, Sequence
 from pathlib import Path
 
 from aprof_show.library import musl_names
-from aprof_show.model import Report
+from aprof_show.model import CacheReport, Report
 
 COMMON = 0.25
 """Reports of one program have more of the names in common, of those that the one with fewer has."""
@@ -53,7 +53,7 @@ def strangers(reports: Sequence[Report]) -> Iterator[str]:
             return
 
 
-def repeated(reports: Sequence[Report]) -> Iterator[str]:
+def repeated(reports: Sequence[Report | CacheReport]) -> Iterator[str]:
     """A warning where a file is given twice, perhaps in a folder too."""
     seen: set[str] = set()
     for report in reports:

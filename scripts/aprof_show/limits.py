@@ -1,12 +1,12 @@
 """Growths above a limit, as `--fail-above` tells of them."""
 from __future__ import annotations
 
-from collections.abc import Collection, Iterator, Sequence
+from collections.abc import Collection, Iterator, Mapping, Sequence
 from dataclasses import replace
 
-from aprof_show.costs import costs_of
+from aprof_show.costs import Cost, costs_of
 from aprof_show.growth import Growth, factor_of
-from aprof_show.model import Profile, Report, Routine
+from aprof_show.model import Context, Profile, Report, Routine
 from aprof_show.rows import Row, ordered
 from aprof_show.table import Choice, share_text
 from aprof_show.terminal import factor_text, plural
@@ -49,20 +49,30 @@ def not_judged(rows: Sequence[Row], limit: float, named: Collection[Routine], ch
     return [text] if left else []
 
 
+def unjudged(rows: Sequence[Row], named: Collection[Routine]) -> Iterator[str]:
+    """Warnings about named routines of which no growth is known, so that nothing is judged."""
+    for row in rows:
+        if row.routine in named and row.growth is None and row.routine.points:
+            yield f"{row.routine.label} has at most one size other than 0, so its growth is not known, and not judged"
+    there = {row.routine.name for row in rows}
+    for name in sorted({routine.label for routine in named if routine.name not in there}):
+        yield f"{name} is in none of the new reports, so it is not judged"
+
+
 def unreturned(profile: Profile, named: Collection[Routine]) -> Iterator[str]:
     """Warnings about named routines that had not returned in a report, so that nothing is known of what they cost there."""
-    for routine in profile.routines:
-        for report in profile.reports:
-            if routine in named and report.still_open:
-                yield from unreturned_in(report, routine)
+    for report in (report for report in profile.reports if named and report.still_open):
+        costs = None if report.roots is None else costs_of(report.roots)
+        for routine in (routine for routine in profile.routines if routine in named):
+            yield from unreturned_in(report, routine, costs)
 
 
-def unreturned_in(report: Report, routine: Routine) -> Iterator[str]:
+def unreturned_in(report: Report, routine: Routine, costs: Mapping[Context, Cost] | None) -> Iterator[str]:
     def is_it(other: Routine) -> bool:
         return other.name == routine.name if routine.name else other.entry == routine.entry
 
-    if report.roots is not None:
-        if any(cost.open and is_it(context.routine) for context, cost in costs_of(report.roots).items()):
+    if costs is not None:
+        if any(cost.open and is_it(context.routine) for context, cost in costs.items()):
             yield f"{routine.label} had not returned at the end of {report.path}, so that call is not judged"
     elif not any(map(is_it, report.routines)):
         calls = plural(report.still_open, "call")

@@ -11,6 +11,9 @@ OPERATOR = re.compile(
     r"\boperator(\(\)|\[\]| new\[\]| delete\[\]| new| delete|<=>|<<=|>>=|->\*|->|[-+*/%^&|!=<>~,]{1,2}| [^(<]*)?"
 )
 
+LOCAL = re.compile(r"\)(?: const| volatile| &&?|\[[^]]*\])*::")
+"""Behind parameters: what stands in a function, as a lambda, which is not that function."""
+
 
 def brief_of(name: str) -> str:
     """`void std::__1::sort<int*>(int*, int*)` is `std::sort<>`. A name of another form stays as it is."""
@@ -24,6 +27,8 @@ def brief_of(name: str) -> str:
             continue
         letter = text[place]
         if letter == "(" and not depth:
+            if LOCAL.search(text, place) or kept.endswith("decltype"):
+                return name
             break
         if letter == ">" and text[place - 1] != "-":
             depth -= 1

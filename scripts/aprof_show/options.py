@@ -104,7 +104,7 @@ def parser() -> argparse.ArgumentParser:
 def add_choices(result: argparse.ArgumentParser) -> None:
     """The options that choose among routines."""
     add = result.add_argument
-    least = "only routines with at least PERCENT of all instructions with callees (1 without it, and every superlinear one)"
+    least = "only routines with at least PERCENT of all instructions with callees (1 without it, and each that is surely superlinear)"
     order = "sorts by one of these; share: with its callees, self: its own; thread, kernel: the part of the input they wrote"
     add("--routine", metavar="NAME", action="append", default=[], help="this routine alone; may be repeated")
     add("--all", action="store_true", help="all routines")

@@ -3,12 +3,27 @@ from __future__ import annotations
 
 import os
 import sys
-from collections.abc import Sequence
+from collections.abc import Iterable
 
 
-def print_lines(lines: Sequence[str]) -> None:
-    for line in lines:
-        print(line)
+def print_lines(lines: Iterable[str]) -> None:
+    """Where the reader has enough, as `head`, the rest is dropped, and the status is still told."""
+    try:
+        for line in lines:
+            print(line)
+        sys.stdout.flush()
+    except BrokenPipeError:
+        drop_output()
+
+
+def say(text: str) -> None:
+    """A line on standard error, where there is one that takes it."""
+    if sys.stderr is None:
+        return
+    try:
+        print(f"show: {text}", file=sys.stderr, flush=True)
+    except OSError:
+        os.dup2(os.open(os.devnull, os.O_WRONLY), sys.stderr.fileno())
 
 
 def write_text(path: str, text: str) -> None:

@@ -4,6 +4,7 @@ from __future__ import annotations
 import math
 from collections.abc import Sequence
 from dataclasses import dataclass, field, replace
+from itertools import islice, takewhile
 
 from aprof_show.bends import spread_of
 from aprof_show.causes import Cause, causes_of
@@ -145,11 +146,11 @@ def written_part(routine: Routine, by: str | None, unknown: float) -> float:
 def by_weight(rows: Sequence[Row]) -> list[Row]:
     """By weight; of those near the first the innermost before its callers: the one with the most self cost, or, where that
     isn't known, with the least cost. Routines of one size are last."""
-    left = sorted((row for row in rows if row.growth), key=lambda row: -row.weight)
+    left = sorted(((row.weight, row) for row in rows if row.growth), key=lambda pair: -pair[0])
     order: list[Row] = []
-    while left:
-        near = 0.9 if not left[0].superlinear else 2 / 3 if left[0].own is None else 1 / 4
-        group = [row for row in left if row.weight >= left[0].weight * near]
-        left = left[len(group) :]
+    while len(order) < len(left):
+        weight, first = left[len(order)]
+        near = 0.9 if not first.superlinear else 2 / 3 if first.own is None else 1 / 4
+        group = [row for _, row in takewhile(lambda pair: pair[0] >= weight * near, islice(left, len(order), None))]
         order += sorted(group, key=lambda row: (row.uncertain, -(row.own or 0.0), row.share, -row.routine.entry))
     return order + sorted((row for row in rows if not row.growth), key=lambda row: (-row.share, row.routine.entry))

@@ -6,7 +6,7 @@ from dataclasses import dataclass, field
 
 from aprof_show.causes import causes_of
 from aprof_show.costs import Cost, costs_of, outermost
-from aprof_show.growth import growth_of, growths
+from aprof_show.growth import GrowthOf, growth_of, growths
 from aprof_show.heading import head, open_lines
 from aprof_show.joining import points_of
 from aprof_show.marks import legend, marked
@@ -96,7 +96,8 @@ def tree_text(
     tops = [context for context, is_outermost in outermost(roots) if is_outermost and context.routine in wanted]
     lines = lines_of(tree_of(tops if wanted else roots, costs).values(), least * profile.steps)
     steps = max(profile.steps, 1)
-    not_shown = [below_text(line.node, costs, steps) if line.again else "" for line in lines]
+    found = growths()
+    not_shown = [below_text(line.node, costs, steps, found) if line.again else "" for line in lines]
     columns = [
         Column(WITH_CALLEES, [percent(line.node.total / steps) + "+" * line.node.open for line in lines]),
         Column(ITS_OWN, [percent(line.node.own / steps) + "+" * line.node.open for line in lines]),
@@ -111,12 +112,12 @@ def tree_text(
     return [*head(profile), *open_lines(profile, room), *told, *under, *about_again]
 
 
-def below_text(node: Node, costs: dict[Context, Cost], steps: int) -> str:
+def below_text(node: Node, costs: dict[Context, Cost], steps: int, found: GrowthOf) -> str:
     """What a node that comes again would show: the routine below with the greatest own cost there, and what that costs with its
     callees, as a part of all instructions."""
     mine = set(node.contexts)
     roots = [context for context in node.contexts if context.caller not in mine]
-    cause = causes_of(roots, costs, {node.routine: node.total}, growths()).get(node.routine) if node.total else None
+    cause = causes_of(roots, costs, {node.routine: node.total}, found).get(node.routine) if node.total else None
     return f"(not shown: {percent(cause.total / steps)} in {cause.routine.label})" if cause else ""
 
 

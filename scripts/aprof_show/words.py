@@ -81,7 +81,7 @@ def missing_text(options: argparse.Namespace, names: Sequence[str]) -> str:
 
 def kind_of(options: argparse.Namespace, names: Sequence[str]) -> str:
     for kind in TAKES:
-        if kind.startswith("--") and getattr(options, attribute_of(kind)) not in (None, False):
+        if kind.startswith("--") and is_given(options, kind):
             return kind
     return "a routine" if names else "the table"
 
@@ -93,8 +93,14 @@ def attribute_of(option: str) -> str:
 def given(options: argparse.Namespace, names: Sequence[str]) -> list[str]:
     """What there is besides the reports."""
     words = [*sorted(CHOICE), "--plot", *(kind for kind in TAKES if kind.startswith("--"))]
-    found = [word for word in words if getattr(options, attribute_of(word)) not in (None, False)]
+    found = [word for word in words if is_given(options, word)]
     return (["a routine"] if names else []) + found
+
+
+def is_given(options: argparse.Namespace, option: str) -> bool:
+    """`--min 0` is given too, though 0 is equal to False."""
+    value = getattr(options, attribute_of(option))
+    return value is not None and value is not False
 
 
 def check(options: argparse.Namespace, names: Sequence[str], kind: str) -> None:

@@ -124,6 +124,16 @@ class Output(unittest.TestCase):
         self.assertRegex(text, r"4096 +\d+\.\d% +4096 +100\.0%  sum_by_columns")
         self.assertRegex(show(CACHE, CACHE), r"8192 +\d+\.\d% +8192 +100\.0%  sum_by_columns")
 
+    def test_caches_of_two_builds(self) -> None:
+        with tempfile.TemporaryDirectory() as folder:
+            for name in ("alpha", "beta"):
+                text = f"aprof cache 1\nend exit 0\nsteps 9\nroutine 00010000 {name}\n4 2\ndone 1\n"
+                Path(folder, name).write_text(text)
+            text = show(folder, "--top", "1")
+        self.assertIn("alpha", text)
+        self.assertNotIn("beta", text)
+        self.assertIn("and 1 routine with fewer misses: a greater --top", text)
+
 
 class Data(unittest.TestCase):
     def test_json(self) -> None:

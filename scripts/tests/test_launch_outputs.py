@@ -77,6 +77,7 @@ class Outputs(Launched):
         for stored, words in (
             (b"aprof 2\nend exit 0\n", "run -o r bubble"), (b"aprof cache 1\n", "run -o r bubble"), (b"", "trace -o r bubble"),
             (b"aprof trace 1\n\0", "trace -o r bubble"), (b"1 10\n2 7\n", "run --record r -o s bubble"),
+            (b"1 10\n4194303 7\n", "run --record r -o s bubble"),
         ):  # fmt: skip
             (self.folder / "r").write_bytes(stored)
             with self.subTest(words=words):

@@ -37,7 +37,8 @@ class Limits(unittest.TestCase):
             with self.subTest(contexts=contexts):
                 paths = self.paths(contexts, RISING, CUT_OFF)
                 self.assertEqual(warned(*paths, "--fail-above", "9", "--routine", "look_up"), f"show: warning: {said.format(paths[1])}\n")
-                self.assertEqual(warned(*paths, "--fail-above", "9", "--routine", "parse"), "")
+                one = "show: warning: parse has at most one size other than 0, so its growth is not known, and not judged\n"
+                self.assertEqual(warned(*paths, "--fail-above", "9", "--routine", "parse"), one)
                 self.assertEqual(warned(*paths, "--fail-above", "9"), "")
 
 

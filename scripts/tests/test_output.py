@@ -47,6 +47,13 @@ class Output(unittest.TestCase):
         self.assertEqual(done.stdout, "routine,entry,size,calls,least,most,cost,plain,thread,kernel,bare\n")
         self.assertEqual(done.stderr, "")
 
+    def test_a_verdict_without_a_reader(self) -> None:
+        """The status is told where standard output, or standard error, has no reader."""
+        for end in ("| true", "2> >(true)"):
+            command = f"set -o pipefail; {{ sleep 0.2; ./show --fail-above 1.1 {WORDS} {WORDS}; }} {end}"
+            with self.subTest(end):
+                self.assertEqual(subprocess.run(["bash", "-c", command], capture_output=True, cwd=ROOT).returncode, 1)
+
 
 class Called(unittest.TestCase):
     def printed(self, *command: str, status: int = 0) -> str:

@@ -88,6 +88,9 @@ class Refusals(Clone):
                 self.refused(f"^{name} is not as in the last commit")
                 (self.top / name).write_text(SOURCES[name])
                 os.utime(self.top / name, (0, 0))
+        (self.top / "crates/one/src/more.rt").write_text("new\n")
+        os.utime(self.top / "crates/one/src/more.rt", (0, 0))
+        self.refused("^crates/one/src/more.rt is not as in the last commit")
 
     def test_a_library_that_is_not_known(self) -> None:
         self.assertEqual(depends_of(ELF + b"\0libm.so.6\0GLIBC_2.4\0\0GLIBC_2.34\0"), "libc6 (>= 2.34), python3 (>= 3.11)")

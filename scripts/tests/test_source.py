@@ -67,6 +67,9 @@ class Names(unittest.TestCase):
             ("(anonymous namespace)::f(int)", "f"),
             ("a::operator->() const", "a::operator->"),
             ("Box<(3>2)>::~Box()", "Box<(3>2)>::~Box()"),
+            ("f(int)::Local::g(char)", "f(int)::Local::g(char)"),
+            ("A::f(int) const::{lambda()#1}::operator()() const", "A::f(int) const::{lambda()#1}::operator()() const"),
+            ("decltype(auto) f<int>()", "decltype(auto) f<int>()"),
         ):
             self.assertEqual(brief_of(name), brief)
 

@@ -25,6 +25,7 @@ REFUSED: list[tuple[list[str], str]] = [
     (["--csv", WORDS, "nosuch"], "no file and no routine called nosuch"),
     (["--json", WORDS, "nosuch"], "no file and no routine called nosuch"),
     (["--csv", "--top", "2", WORDS], "--csv takes no --top"),
+    (["--csv", "--min", "0", WORDS], "--csv takes no --min"),
     (["--json", "--library", WORDS], "--json takes no --library"),
     (["--csv", "--against", WORDS, WORDS], "--csv takes no --against"),
     (["--csv", "--plot", WORDS, "find"], "--csv takes no --plot"),

@@ -24,15 +24,24 @@ function nodeOf(i) {
 
 const rootNodes = () => dearestFirst(contexts.caller.flatMap((caller, i) => (caller < 0 ? [nodeOf(i)] : [])));
 
-// the cost of some contexts, counting once what lies in another of them
+// behind the last context under each one: those under it stand behind it
+const endOf = contexts && (() => {
+  const ends = new Uint32Array(contexts.length);
+  for (let i = contexts.length - 1; i >= 0; i -= 1) {
+    ends[i] = Math.max(ends[i], i + 1);
+    const caller = contexts.caller[i];
+    if (caller >= 0) ends[caller] = Math.max(ends[caller], ends[i]);
+  }
+  return ends;
+})();
+
+// the cost of some contexts, which rise, counting once what lies in another of them
 function outerCost(targets) {
-  const within = new Uint8Array(contexts.length);
-  for (const i of targets) within[i] = 1;
-  let cost = 0;
-  for (let i = 0; i < contexts.length; i += 1) {
-    const above = contexts.caller[i] >= 0 && within[contexts.caller[i]] > 0;
-    if (within[i] === 1 && !above) cost += contexts.cost[i];
-    if (above) within[i] = 2;
+  let [cost, end] = [0, 0];
+  for (const i of targets) {
+    if (i < end) continue;
+    cost += contexts.cost[i];
+    end = endOf[i];
   }
   return cost;
 }
