@@ -24,7 +24,7 @@ def cache_text(report: CacheReport, choice: Choice, room: int, labels: Mapping[C
     if listed:
         lines += table(columns_of(listed, misses, labels), room)
     if len(listed) < len(chosen):
-        lines.append(f"and {plural(len(chosen) - len(listed), 'routine')} with fewer misses: a greater --top")
+        lines.append(f"and {plural(len(chosen) - len(listed), 'more routine')}: a greater --top")
     if len(chosen) < len(report.routines):
         lines.append(f"and {plural(len(report.routines) - len(chosen), 'routine')} below {percent(least)}: --all")
     return lines

@@ -132,7 +132,7 @@ class Output(unittest.TestCase):
             text = show(folder, "--top", "1")
         self.assertIn("alpha", text)
         self.assertNotIn("beta", text)
-        self.assertIn("and 1 routine with fewer misses: a greater --top", text)
+        self.assertIn("and 1 more routine: a greater --top", text)
 
 
 class Data(unittest.TestCase):
