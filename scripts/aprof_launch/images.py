@@ -4,6 +4,7 @@ from __future__ import annotations
 import os
 import struct
 from pathlib import Path
+from shutil import which
 
 from aprof_copy.called import launcher
 
@@ -45,8 +46,13 @@ def why_bad(path: str) -> str:
     if data.startswith(TRACE):
         return f"it is a trace, not an executable: `{launcher()} replay` makes a report of it"
     if is_text(data):
-        return "it is a text, not an executable: compile it first (examples/musl/cc)"
+        return f"it is a text, not an executable: compile it first ({compiler()})"
     return foreign(data) or unsupported(data)
+
+
+def compiler() -> str:
+    """Where a compiler for such executables is: in the package, or in a clone."""
+    return "aprof-cc" if which("aprof-cc") else "examples/musl/cc"
 
 
 def foreign(data: bytes) -> str:
@@ -58,7 +64,7 @@ def foreign(data: bytes) -> str:
     if (bits, order, machine) == (32, "little", 243):
         return ""
     name = PROCESSORS.get(machine, f"processor {machine} (e_machine)")
-    return f"it is a {bits}-bit {order}-endian executable for {name}: compile it for RV32 (examples/musl/cc)"
+    return f"it is a {bits}-bit {order}-endian executable for {name}: compile it for RV32 ({compiler()})"
 
 
 def unsupported(data: bytes) -> str:

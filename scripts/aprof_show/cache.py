@@ -26,7 +26,7 @@ def cache_text(report: CacheReport, choice: Choice, room: int, labels: Mapping[C
     if len(listed) < len(chosen):
         lines.append(f"and {plural(len(chosen) - len(listed), 'more routine')}: a greater --top")
     if len(chosen) < len(report.routines):
-        lines.append(f"and {plural(len(report.routines) - len(chosen), 'routine')} below {percent(least)}: --all")
+        lines.append(f"and {plural(len(report.routines) - len(chosen), 'routine')} below {percent(least)}: {choice.for_cheaper}")
     return lines
 
 

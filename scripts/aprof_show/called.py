@@ -2,13 +2,20 @@
 from __future__ import annotations
 
 import os
+import sys
+from pathlib import Path
 
 from aprof_copy import called
 
+PACKAGED = "aprof-show"
+"""The command of the Debian package."""
+
 
 def name() -> str:
-    """As it can be called again: the launcher, which starts it as `aprof show`, says how it was called itself."""
-    return f"{called.launcher()} show" if "APROF_NAME" in os.environ else "show"
+    """As it was called: the launcher, which starts it as `aprof show`, says how it was called itself."""
+    if "APROF_NAME" in os.environ:
+        return f"{called.launcher()} show"
+    return PACKAGED if Path(sys.argv[0]).name == PACKAGED else "show"
 
 
 def version() -> str:

@@ -68,7 +68,7 @@ def growth_lines(row: Row, growth: Growth) -> list[str]:
         verdict,
         *bent,
         estimates_text(growth),
-        f"estimated by the fit: {twice} for a call of size {short(2 * most)}, {tenfold} for one of {short(10 * most)}",
+        f"at this growth: {twice} for a call of size {short(2 * most)}, {tenfold} for one of {short(10 * most)}",
     ]
 
 

@@ -101,14 +101,22 @@ def growth_of(points: Sequence[Point]) -> Growth | None:
     """The growth of the greatest cost, or of the mean where the greatest misleads; None where there is at most one size
     other than 0."""
     spread = spread_of(points)
-    spots = [(float(point.size), float(max(point.most, 1))) for point in points if point.size > 0]
-    growth = growth_by(spots, spread < SMALL_SPREAD)
+    growth = growth_by(spots_of(points, lambda point: point.most), spread < SMALL_SPREAD)
     if growth is None or growth.weak or growth.exponent >= LINEAR or spread < LARGE_SPREAD:
         return growth
-    mean = growth_by([(float(point.size), max(point.mean, 1.0)) for point in points if point.size > 0], False)
+    mean = growth_by(spots_of(points, lambda point: point.mean), False)
     if mean is None or mean.exponent < growth.exponent + CLEARLY:
         return growth
     return replace(mean, bent=growth.exponent)
+
+
+def spots_of(points: Sequence[Point], cost_of: Callable[[Point], float]) -> list[Spot]:
+    """Each size other than 0 with its cost, which is at least 1. Sizes that are the same as floats are one."""
+    costs: dict[float, float] = {}
+    for point in points:
+        if point.size > 0:
+            costs[float(point.size)] = max(costs.get(float(point.size), 1.0), float(cost_of(point)))
+    return list(costs.items())
 
 
 GrowthOf = Callable[[Routine], Growth | None]

@@ -47,6 +47,11 @@ class Choice:
         """Whether most of its input is by those whose part is the order."""
         return self.by in WRITERS and written_part(row.routine, self.by, 0.0) > 0.5
 
+    @property
+    def for_cheaper(self) -> str:
+        """The option that lists cheaper routines."""
+        return "--all" if self.least is None else "a smaller --min"
+
 
 def summary(profile: Profile, rows: Sequence[Row], choice: Choice, room: int) -> list[str]:
     """All that `show REPORT...` prints."""
@@ -177,7 +182,7 @@ def hidden_lines(rows: Sequence[Row], choice: Choice, room: int) -> list[str]:
     """What is left out, and how it is listed: it is cheap, or behind the first ones."""
     most = percent(max(row.share for row in rows))
     behind = [row for row in rows if choice.has(row)]
-    ways = " and ".join(["a greater --top"] * bool(behind) + ["--all"] * (len(behind) < len(rows)))
+    ways = " and ".join(["a greater --top"] * bool(behind) + [choice.for_cheaper] * (len(behind) < len(rows)))
     text = f"and {plural(len(rows), 'routine')} of at most {most} with callees: {ways}"
     return [*wrapped(text, room), *marked_lines(rows, "among them", ways, room)]
 

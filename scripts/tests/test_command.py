@@ -122,6 +122,7 @@ class Output(unittest.TestCase):
     def test_cache(self) -> None:
         text = show(CACHE)
         self.assertRegex(text, r"4096 +\d+\.\d% +4096 +100\.0%  sum_by_columns")
+        self.assertIn("below 50.0%: a smaller --min", show(CACHE, "--min", "50"))
         self.assertRegex(show(CACHE, CACHE), r"8192 +\d+\.\d% +8192 +100\.0%  sum_by_columns")
 
     def test_caches_of_two_builds(self) -> None:

@@ -143,7 +143,7 @@ class Bends(unittest.TestCase):
         cases = [
             (points_of([(size, float(cost)) for size, cost in POSTINGS]), "growth x2.3, rising to x2.5: between n log n and n^2, watch it"),
             (SPREAD[0][1], "by the mean, as costs at one size differ (up to x8.0): the greatest cost grows x"),
-            (points_of([(n, 10.0 * n) for n in (40_000, 80_000, 160_000, 320_000)]), "estimated by the fit: 6.4M for a call of size 640000, 32M for one of 3200000"),
+            (points_of([(n, 10.0 * n) for n in (40_000, 80_000, 160_000, 320_000)]), "at this growth: 6.4M for a call of size 640000, 32M for one of 3200000"),
         ]
         for points, part in cases:
             with self.subTest(part):
@@ -157,6 +157,7 @@ class FewPoints(unittest.TestCase):
     def test_one_size(self) -> None:
         self.assertIsNone(growth_of([]))
         self.assertIsNone(growth_of(points_of([(0, 9), (7, 9)])))
+        self.assertIsNone(growth_of(points_of([(2**60, 9), (2**60 + 1, 10)])), "the same size as a float")
 
     def test_weak(self) -> None:
         cases = [

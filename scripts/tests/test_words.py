@@ -144,7 +144,7 @@ class Tables(unittest.TestCase):
         cases = [
             (["--top", "2", "--all"], "and 5 routines of at most 100.0% with callees: a greater --top"),
             (["--top", "2"], "a greater --top"),
-            (["--min", "50"], ": --all"),
+            (["--min", "50"], ": a smaller --min"),
         ]
         for words, part in cases:
             with self.subTest(words=words):
