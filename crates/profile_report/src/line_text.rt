@@ -1,7 +1,7 @@
 //! The lines of a report, one function a form.
 #![tactic(auto, using(guest_words::proofs::Texts::keeps, guest_words::proofs::Texts::keeps_same, guest_words::proofs::Texts::keeps_further, guest_words::proofs::Texts::cut_back))]
 
-ghost use Rattle.std.specs.Prelude.{◌≡◌, ◌++◌, ◌<◌, codes, take, OnErr, OnOk};
+ghost use Rattle.std.specs.Prelude.{◌≡◌, ◌++◌, ◌<◌, codes, take, IsOk, OnErr, OnOk};
 ghost use Rattle.profile_report.specs.LineForms.{end_line, ended, fault_words, first_line, hex_address, hex_glyph, labelled, name_word, point_line, routine_line, split_words};
 ghost use Rattle.guest_words.specs.Texts.{KeepsOn};
 
@@ -24,6 +24,20 @@ pub(crate) fn or_cut_back(
         text.truncate(length);
     }
     pushed
+}
+
+// Ends the line that was pushed behind the first `length` bytes, or cuts the text back to these if a push failed.
+fn or_cut_line(
+    pushed: Result<(), AllocError>,
+    text: &mut Vec<u8>,
+    length: usize,
+) -> Result<(), AllocError>
+    ensures pushed { OnOk result (IsOk pushed) }
+    ensures ok { OnOk result (text.new.items ≡ ended text.old.items) }
+    ensures err { OnErr result (text.new.items ≡ take length text.old.items) }
+{
+    or_cut_back(pushed, text, length)?;
+    or_cut_back(text.extend_from_slice(b"\n"), text, length)
 }
 
 // Appends a number after its label.
@@ -122,8 +136,7 @@ pub fn push_end_line(text: &mut Vec<u8>, finish: Finish) -> Result<(), AllocErro
     ensures err { OnErr result (text.new.items ≡ text.old.items) }
 {
     let length = text.len();
-    or_cut_back(push_end(text, finish), text, length)?;
-    or_cut_back(text.extend_from_slice(b"\n"), text, length)
+    or_cut_line(push_end(text, finish), text, length)
 }
 
 /// Appends the line of a number after its label. If it runs out of memory, the text stays as it was.
@@ -132,8 +145,7 @@ pub fn push_number_line(text: &mut Vec<u8>, label: &[u8], number: u64) -> Result
     ensures err { OnErr result (text.new.items ≡ text.old.items) }
 {
     let length = text.len();
-    or_cut_back(push_labelled(text, label, number), text, length)?;
-    or_cut_back(text.extend_from_slice(b"\n"), text, length)
+    or_cut_line(push_labelled(text, label, number), text, length)
 }
 
 // Appends a routine's name, or a dash where it has none.
@@ -169,8 +181,7 @@ pub fn push_routine_line(
     ensures err { OnErr result (text.new.items ≡ text.old.items) }
 {
     let length = text.len();
-    or_cut_back(push_routine(text, entry, name), text, length)?;
-    or_cut_back(text.extend_from_slice(b"\n"), text, length)
+    or_cut_line(push_routine(text, entry, name), text, length)
 }
 
 // Appends the parts of a point's sizes, where they are told.
@@ -208,6 +219,5 @@ pub fn push_point_line(text: &mut Vec<u8>, point: Point) -> Result<(), AllocErro
     ensures err { OnErr result (text.new.items ≡ text.old.items) }
 {
     let length = text.len();
-    or_cut_back(push_point(text, point), text, length)?;
-    or_cut_back(text.extend_from_slice(b"\n"), text, length)
+    or_cut_line(push_point(text, point), text, length)
 }

@@ -77,6 +77,15 @@ advanced_alike most ticks old new advanced t w = found (value_of old.live.thread
 pub seen_same : {old was new : State} → old ≡ was → HasSamePages old new → HasSamePages was new
 seen_same {new = new} is same = subst (λ (k : State). HasSamePages k new) is same
 
+-- a change of the threads alone
+pub threads_alike : {old was new : State} → old ≡ was → new.writes ≡ old.writes → new.marks ≡ old.marks → AlikeIn old.live.threads new.live.threads
+    → HasSamePages was new
+threads_alike is writes marks alike = seen_same is (record {
+  writes = λ w. ap (λ ps. covers ps w) writes;
+  marks = λ w. ap (λ ps. covers ps w) marks;
+  accesses = alike;
+})
+
 -- two events, one after the other
 pub same_twice : {old mid new : State} → HasSamePages old mid → HasSamePages mid new → HasSamePages old new
 same_twice first then = record {

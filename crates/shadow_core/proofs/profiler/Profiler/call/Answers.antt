@@ -8,7 +8,7 @@ use Rattle.shadow_core.specs.State.{State, table_of_state}
 use Rattle.stamp_table.specs.Ticks.{table_after}
 use Rattle.shadow_core.proofs.Begun.{begin_fits, called, goes_on, has_it}
 use Rattle.shadow_core.proofs.Profiled.{alive_here, lives_here}
-use Rattle.shadow_core.proofs.SamePages.{seen_same, stamped_alike}
+use Rattle.shadow_core.proofs.SamePages.{stamped_alike, threads_alike}
 use Rattle.shadow_core.proofs.Settled.{whole_still}
 use Rattle.shadow_core.proofs.profiler.Profiler.call.Goals as goal
 
@@ -53,8 +53,4 @@ invariant_of-self g c =
 pub returns-then-has_room-clause-pages : goal.returns-then-has_room-clause-pages
 returns-then-has_room-clause-pages g c =
     let lives = lives_here _ c.args.tid (alive_here g.S.Stamp.MAX (Call c.args.tid c.args.entry c.args.back) c.args.tid _ _ c.self.view_is c.requires c.requires.formed.0.0) in
-    seen_same c.self.view_is (record {
-      writes = λ w. refl;
-      marks = λ w. refl;
-      accesses = stamped_alike c.self.inside.threads.threads c.begin.new.self.threads c.args.tid _ _ lives (λ w. refl) c.begin.ensures.threads;
-    })
+    threads_alike c.self.view_is refl refl (stamped_alike c.self.inside.threads.threads c.begin.new.self.threads c.args.tid _ _ lives (λ w. refl) c.begin.ensures.threads)

@@ -13,7 +13,7 @@ use Rattle.shadow_core.specs.State.{State, stepped, table_of_state}
 use Rattle.shadow_core.proofs.After.{above_all, alive_after, call_made, call_shallow, counts_fit, mid_made, starts_fit, taken_after}
 use Rattle.shadow_core.proofs.Profiled.{lives_here}
 use Rattle.shadow_core.proofs.Reading.{with_found}
-use Rattle.shadow_core.proofs.SamePages.{calls_alike, seen_same, stamped_alike}
+use Rattle.shadow_core.proofs.SamePages.{calls_alike, stamped_alike, threads_alike}
 use Rattle.shadow_core.proofs.Settled.{whole_call}
 use Rattle.shadow_core.proofs.profiler.Profiler.call_after.Goals as goal
 
@@ -101,13 +101,9 @@ returns-clause-pages g c =
     let may = subst (λ (k : State). MayTakeAfter (StandsFor g.S.Stamp.MAX) (is_within g.S.Stamp.MAX) k t c.args.steps (Call t c.args.entry c.args.back)) (sym c.self.view_is) c.requires.may in
     let lives = lives_here s t (alive_after g.S.Stamp.MAX t c.args.steps (Call t c.args.entry c.args.back) s may c.requires.some) in
     let made = steps_added c.args.steps (calls_of s.live.threads t) in
-    seen_same c.self.view_is (record {
-      writes = λ w. refl;
-      marks = λ w. refl;
-      accesses = λ u w.
-          stamped_alike (with_calls s.live t made).threads c.begin_after.new.self.threads t _ _ (ap is_some (with_found s.live.threads t _ lives)) (λ v. refl) (c.if-not-begin_after.ensures.begun refl).threads u w
-          ∙ calls_alike s.live (with_calls s.live t made) t made lives refl u w;
-    })
+    threads_alike c.self.view_is refl refl (λ u w.
+    stamped_alike (with_calls s.live t made).threads c.begin_after.new.self.threads t _ _ (ap is_some (with_found s.live.threads t _ lives)) (λ v. refl) (c.if-not-begin_after.ensures.begun refl).threads u w
+    ∙ calls_alike s.live (with_calls s.live t made) t made lives refl u w)
 
 pub invariant_of-self-2 : goal.invariant_of-self-2
 invariant_of-self-2 g c =

@@ -11,7 +11,7 @@ use Rattle.shadow_core.proofs.Profiled.{alive_here, lives_here, on_err}
 use Rattle.std.specs.Prelude.{nat_lt, sum_by}
 use Rattle.stamp_renumber.specs.Costs.{stamps_in, stamps_of, tick_cost}
 use Rattle.shadow_core.proofs.Costs.{stamps_with}
-use Rattle.shadow_core.proofs.SamePages.{advanced_alike, seen_same, stamped_alike}
+use Rattle.shadow_core.proofs.SamePages.{advanced_alike, seen_same, stamped_alike, threads_alike}
 use Rattle.shadow_core.proofs.Settled.{whole_anew, whole_as_before}
 use Rattle.shadow_core.proofs.profiler.Profiler.call_anew.Goals as goal
 
@@ -87,11 +87,7 @@ returns-clause-table g c =
 pub returns-in_err-reserve-clause-pages : goal.returns-in_err-reserve-clause-pages
 returns-in_err-reserve-clause-pages g c =
     let lives = lives_here _ c.args.tid (alive_here g.S.Stamp.MAX (Call c.args.tid c.args.entry c.args.back) c.args.tid _ _ c.self.view_is c.requires c.requires.formed.0.0) in
-    seen_same c.self.view_is (record {
-      writes = λ w. refl;
-      marks = λ w. refl;
-      accesses = stamped_alike c.self.inside.threads.threads c.reserve.new.self.threads c.args.tid _ _ lives (λ w. refl) c.in_err-reserve.ensures.threads;
-    })
+    threads_alike c.self.view_is refl refl (stamped_alike c.self.inside.threads.threads c.reserve.new.self.threads c.args.tid _ _ lives (λ w. refl) c.in_err-reserve.ensures.threads)
 
 pub returns-clause-pages : goal.returns-clause-pages
 returns-clause-pages g c =

@@ -9,7 +9,7 @@ use Rattle.shadow_core.proofs.PartReads.{count_few}
 use Rattle.shadow_core.proofs.Profiled.{advance_here, alive_here, lives_here, on_err}
 use Rattle.shadow_core.proofs.ReadEvents.{found_fits, found_lives, may_read_there, read_whole}
 use Rattle.shadow_core.proofs.Reading.{lives_changed, frames_changed}
-use Rattle.shadow_core.proofs.SamePages.{calls_alike, changed_alike, seen_same}
+use Rattle.shadow_core.proofs.SamePages.{calls_alike, changed_alike, threads_alike}
 use Rattle.shadow_core.specs.Private.Reading.{IsReadWithin}
 use Rattle.shadow_core.proofs.Costs.{within_alone, within_before, within_same}
 use Rattle.shadow_core.proofs.Settled.{whole_as_before, whole_still}
@@ -90,14 +90,10 @@ returns-clause-pages g c = λ own.
     let roomy = c.in_ok-cover_own.ensures.changed in
     let kept = c.in_ok-cover_own.ensures.same (subst (λ (k : State). AreCovered (pages_of k.live.threads t) c.args.first c.args.count) (sym c.self.view_is) own) in
     let read = c.read-found.ensures.read in
-    seen_same c.self.view_is (record {
-      writes = λ w. refl;
-      marks = λ w. refl;
-      accesses = λ u w.
-          calls_alike c.read-found.new.threads c.add_found.new.self t _ (lives_changed mid c.read-found.new.threads t _ _ (lives_changed old mid t _ _ lives roomy) read.changed) c.add_found.ensures u w
-          ∙ changed_alike mid c.read-found.new.threads t _ _ (lives_changed old mid t _ _ lives roomy) read.changed read.covered u w
-          ∙ changed_alike old mid t _ _ lives roomy (λ v. ap (λ ps. covers ps v) kept) u w;
-    })
+    threads_alike c.self.view_is refl refl (λ u w.
+    calls_alike c.read-found.new.threads c.add_found.new.self t _ (lives_changed mid c.read-found.new.threads t _ _ (lives_changed old mid t _ _ lives roomy) read.changed) c.add_found.ensures u w
+    ∙ changed_alike mid c.read-found.new.threads t _ _ (lives_changed old mid t _ _ lives roomy) read.changed read.covered u w
+    ∙ changed_alike old mid t _ _ lives roomy (λ v. ap (λ ps. covers ps v) kept) u w)
 
 pub returns-in_err-cover_own-clause-cost : goal.returns-in_err-cover_own-clause-cost
 returns-in_err-cover_own-clause-cost g c =

@@ -8,7 +8,7 @@ use Rattle.shadow_core.proofs.PartReads.{count_few}
 use Rattle.shadow_core.proofs.Profiled.{advance_here, alive_here, lives_here}
 use Rattle.shadow_core.proofs.ReadEvents.{found_fits, found_lives, may_read_there, read_whole}
 use Rattle.shadow_core.proofs.Reading.{lives_changed, not_changed, within_more}
-use Rattle.shadow_core.proofs.SamePages.{calls_alike, changed_alike, seen_same}
+use Rattle.shadow_core.proofs.SamePages.{calls_alike, changed_alike, threads_alike}
 use Rattle.shadow_core.specs.Private.Reading.{IsReadWithin}
 use Rattle.shadow_core.proofs.Costs.{within_before}
 use Rattle.shadow_core.proofs.Settled.{whole_still}
@@ -85,13 +85,9 @@ returns-clause-pages g c =
     let old = c.self.inside.threads in
     let lives = lives_here _ t (alive_here g.S.Stamp.MAX (Read t c.args.w 1) t _ _ c.self.view_is c.requires.may c.requires.may.formed.0.0.0) in
     let read = c.read_at-found.ensures.read in
-    seen_same c.self.view_is (record {
-      writes = λ w. refl;
-      marks = λ w. refl;
-      accesses = λ u w.
-          calls_alike c.read_at-found.new.threads c.add_found.new.self t _ (lives_changed old c.read_at-found.new.threads t _ _ lives read.changed) c.add_found.ensures u w
-          ∙ changed_alike old c.read_at-found.new.threads t _ _ lives read.changed read.covered u w;
-    })
+    threads_alike c.self.view_is refl refl (λ u w.
+    calls_alike c.read_at-found.new.threads c.add_found.new.self t _ (lives_changed old c.read_at-found.new.threads t _ _ lives read.changed) c.add_found.ensures u w
+    ∙ changed_alike old c.read_at-found.new.threads t _ _ lives read.changed read.covered u w)
 
 pub returns-clause-cost : goal.returns-clause-cost
 returns-clause-cost g c =

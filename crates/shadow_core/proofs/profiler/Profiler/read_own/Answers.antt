@@ -7,7 +7,7 @@ use Rattle.shadow_core.proofs.Profiled.{advance_here, alive_here, lives_here}
 use Rattle.shadow_core.proofs.ReadEvents.{may_read_there}
 use Rattle.shadow_core.proofs.Reading.{not_changed, within_more}
 use Rattle.shadow_core.proofs.Repeated.{read_by_own}
-use Rattle.shadow_core.proofs.SamePages.{changed_alike, seen_same}
+use Rattle.shadow_core.proofs.SamePages.{changed_alike, threads_alike}
 use Rattle.shadow_core.specs.Private.Reading.{IsReadWithin}
 use Rattle.shadow_core.proofs.Settled.{whole_still}
 use Rattle.shadow_core.proofs.profiler.Profiler.read_own.Goals as goal
@@ -54,11 +54,7 @@ returns-clause-pages g c =
     let kept = subst (λ (k : State). stamp_at k.writes c.args.w ≤ stamp_at (pages_of k.live.threads t) c.args.w) (sym c.self.view_is) c.requires.kept in
     let own = c.requires.own ∙ ap (λ (k : State). stamp_at (pages_of k.live.threads t) c.args.w) (sym c.self.view_is) in
     let read = c.read_kept.ensures.read (stamp_at c.self.inside.writes.pages) (stamp_at c.self.inside.marks.pages) (omega (arith, kept, own)) in
-    seen_same c.self.view_is (record {
-      writes = λ w. refl;
-      marks = λ w. refl;
-      accesses = λ u w. changed_alike c.self.inside.threads c.read_kept.new.threads t _ _ lives read.changed read.covered u w;
-    })
+    threads_alike c.self.view_is refl refl (λ u w. changed_alike c.self.inside.threads c.read_kept.new.threads t _ _ lives read.changed read.covered u w)
 
 pub returns-clause-cost : goal.returns-clause-cost
 returns-clause-cost g c =

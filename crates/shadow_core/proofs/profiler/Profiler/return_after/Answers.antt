@@ -10,7 +10,7 @@ use Rattle.shadow_core.specs.State.{State, stepped, table_of_state}
 use Rattle.shadow_core.proofs.After.{alive_after, calls_there, counts_fit, few_found, mid_made, pops, return_made, return_pages, return_recorded, taken_after}
 use Rattle.shadow_core.proofs.Applied.{deep_by_frames}
 use Rattle.shadow_core.proofs.Profiled.{lives_here}
-use Rattle.shadow_core.proofs.SamePages.{seen_same}
+use Rattle.shadow_core.proofs.SamePages.{threads_alike}
 use Rattle.shadow_core.proofs.Settled.{whole_return}
 use Rattle.shadow_core.proofs.profiler.Profiler.return_after.Goals as goal
 
@@ -100,11 +100,7 @@ returns-in-Some-clause-pages g c =
     let s : State = record { counter = c.self.inside.counter; writes = c.self.inside.writes.pages; marks = c.self.inside.marks.pages; live = c.self.inside.threads; last = c.self.inside.last; greatest = c.self.inside.greatest; weight = c.self.inside.weight; renumbered = c.self.inside.renumbered; settled = c.self.inside.settled } in
     let may = subst (λ (k : State). MayTakeAfter (StandsFor g.S.Stamp.MAX) (is_within g.S.Stamp.MAX) k c.args.tid c.args.steps (Ret c.args.tid c.args.target)) (sym c.self.view_is) c.requires.may in
     let runs : c.self.inside.last ≡ Some c.args.tid = c.if-not-is_running.ensures.runs refl in
-    seen_same c.self.view_is (record {
-      writes = λ w. refl;
-      marks = λ w. refl;
-      accesses = return_pages g.S.Stamp.MAX c.args.tid c.args.steps c.args.target s may c.requires.some runs c.return_after.new.self c.in-Some.ended c.in-Some.ensures.ended;
-    })
+    threads_alike c.self.view_is refl refl (return_pages g.S.Stamp.MAX c.args.tid c.args.steps c.args.target s may c.requires.some runs c.return_after.new.self c.in-Some.ended c.in-Some.ensures.ended)
 
 pub invariant_of-self : goal.invariant_of-self
 invariant_of-self g c =

@@ -10,7 +10,7 @@ use Rattle.shadow_core.specs.State.{State, table_of_state}
 use Rattle.stamp_table.specs.Ticks.{table_after}
 use Rattle.shadow_core.proofs.Ended.{MayEndIn, left_as_before, may_end, recorded, returned}
 use Rattle.shadow_core.proofs.Profiled.{on_err}
-use Rattle.shadow_core.proofs.SamePages.{seen_same, with_alike}
+use Rattle.shadow_core.proofs.SamePages.{threads_alike, with_alike}
 use Rattle.shadow_core.proofs.Settled.{whole_as_before, whole_still}
 use Rattle.shadow_core.proofs.profiler.Profiler.return_full.Goals as goal
 
@@ -118,22 +118,14 @@ returns-clause-pages g c =
     let ended : IsEnded t c.ending-ended.result c.self.inside.threads c.end_calls.new.threads c.reserve.new.self.items c.end_calls.new.done.items =
     subst (λ (l : Live). IsEnded t c.ending-ended.result l c.end_calls.new.threads c.reserve.new.self.items c.end_calls.new.done.items) same c.end_calls.ensures.ended in
     let count = c.ending-ended.ensures.count in
-    seen_same c.self.view_is (record {
-      writes = λ w. refl;
-      marks = λ w. refl;
-      accesses = λ u w. ap (λ xs. covers (pages_of xs u) w) ended.threads ∙ with_alike c.self.inside.threads.threads t _ may.can.lives (λ v. refl) u w;
-    })
+    threads_alike c.self.view_is refl refl (λ u w. ap (λ xs. covers (pages_of xs u) w) ended.threads ∙ with_alike c.self.inside.threads.threads t _ may.can.lives (λ v. refl) u w)
 
 pub returns-in_err-reserve-clause-pages : goal.returns-in_err-reserve-clause-pages
 returns-in_err-reserve-clause-pages g c =
     let t = c.args.tid in
     let may = may_end g.S.Stamp.MAX t (Ret t c.args.target) _ _ c.self.view_is c.requires c.requires.formed.0.0 in
     let same = c.ending-ended.ensures.same in
-    seen_same c.self.view_is (record {
-      writes = λ w. refl;
-      marks = λ w. refl;
-      accesses = λ u w. ap (λ (l : Live). covers (pages_of l.threads u) w) same;
-    })
+    threads_alike c.self.view_is refl refl (λ u w. ap (λ (l : Live). covers (pages_of l.threads u) w) same)
 
 pub returns-in_err-reserve-clause-refused : goal.returns-in_err-reserve-clause-refused
 returns-in_err-reserve-clause-refused g c =

@@ -14,7 +14,7 @@ use Rattle.stamp_table.specs.Ticks.{table_after}
 use Rattle.shadow_core.proofs.Applied.{deep_by_frames, taken}
 use Rattle.shadow_core.proofs.Ended.{as_before, may_end, may_pop, recorded, returned, left_as_before}
 use Rattle.shadow_core.proofs.Popped.{one_ended}
-use Rattle.shadow_core.proofs.SamePages.{seen_same, with_alike}
+use Rattle.shadow_core.proofs.SamePages.{threads_alike, with_alike}
 use Rattle.shadow_core.proofs.Settled.{whole_still, whole_as_before}
 use Rattle.shadow_core.proofs.profiler.Profiler.return_one.Goals as goal
 
@@ -119,11 +119,7 @@ returns-in-One-clause-pages g c =
     let one = subst (λ (r : Returned). IsReturned t c.args.target c.self.inside.threads c.return_to.new.self r) c.in-One.is c.return_to.ensures in
     let e = one.1 in
     let x = c.in-One.ended in
-    seen_same c.self.view_is (record {
-      writes = λ w. refl;
-      marks = λ w. refl;
-      accesses = λ u w. ap (λ xs. covers (pages_of xs u) w) e.threads ∙ with_alike c.self.inside.threads.threads t _ may.can.lives (λ v. refl) u w;
-    })
+    threads_alike c.self.view_is refl refl (λ u w. ap (λ xs. covers (pages_of xs u) w) e.threads ∙ with_alike c.self.inside.threads.threads t _ may.can.lives (λ v. refl) u w)
 
 pub returns-in-Many-clause-others : goal.returns-in-Many-clause-others
 returns-in-Many-clause-others g c =
@@ -141,11 +137,7 @@ pub returns-in-Many-clause-pages : goal.returns-in-Many-clause-pages
 returns-in-Many-clause-pages g c =
     let t = c.args.tid in
     let many = subst (λ (r : Returned). IsReturned t c.args.target c.self.inside.threads c.return_to.new.self r) c.in-Many.is c.return_to.ensures in
-    seen_same c.self.view_is (record {
-      writes = λ w. refl;
-      marks = λ w. refl;
-      accesses = λ u w. ap (λ (l : Live). covers (pages_of l.threads u) w) many.2;
-    })
+    threads_alike c.self.view_is refl refl (λ u w. ap (λ (l : Live). covers (pages_of l.threads u) w) many.2)
 
 pub invariant_of-self : goal.invariant_of-self
 invariant_of-self g c =

@@ -4,7 +4,7 @@ use Rattle.trace_model.specs.Observing.{MayStepBy}
 use Rattle.shadow_core.specs.Profiling.{StandsFor}
 use Rattle.shadow_core.specs.State.{State}
 use Rattle.shadow_core.proofs.Profiled.{alive_for_step, lives_here}
-use Rattle.shadow_core.proofs.SamePages.{calls_alike, seen_same}
+use Rattle.shadow_core.proofs.SamePages.{calls_alike, threads_alike}
 use Rattle.shadow_core.proofs.Stepped.{may_step_once, steps_fit, steps_made}
 use Rattle.shadow_core.proofs.Settled.{whole_steps}
 use Rattle.shadow_core.proofs.profiler.Profiler.steps_on.Goals as goal
@@ -26,12 +26,8 @@ returns-clause-table g c =
 pub returns-clause-pages : goal.returns-clause-pages
 returns-clause-pages g c =
     let may = subst (λ (k : State). MayStepBy (StandsFor g.S.Stamp.MAX) (is_within g.S.Stamp.MAX) k c.args.tid c.args.count) (sym c.self.view_is) c.requires.may in
-    seen_same c.self.view_is (record {
-      writes = λ w. refl;
-      marks = λ w. refl;
-      accesses = calls_alike c.self.inside.threads c.add_steps.new.self c.args.tid _
-          (lives_here _ c.args.tid (alive_for_step g.S.Stamp.MAX c.args.tid _ (may_step_once g.S.Stamp.MAX c.args.tid c.args.count _ may c.requires.some))) c.add_steps.ensures;
-    })
+    threads_alike c.self.view_is refl refl (calls_alike c.self.inside.threads c.add_steps.new.self c.args.tid _
+    (lives_here _ c.args.tid (alive_for_step g.S.Stamp.MAX c.args.tid _ (may_step_once g.S.Stamp.MAX c.args.tid c.args.count _ may c.requires.some))) c.add_steps.ensures)
 
 pub overflow_add-self : goal.overflow_add-self
 overflow_add-self g c =
