@@ -43,10 +43,11 @@ def of_help() -> Options:
 
 
 def of_readme(text: str) -> Options:
-    """The block of command lines: each begins with `aprof COMMAND`. What all commands that run a guest share is the line `GUEST:`."""
+    """The command lines: each begins with `aprof COMMAND`, and those of `show` are examples. What all commands that run a guest
+    share is the line `GUEST:`."""
     shared = re.search(r"^    GUEST: (.*)$", text, re.MULTILINE)
     found = re.findall(r"^    aprof ([a-z]+)((?: .*)?)$", text, re.MULTILINE)
-    return {name: of_usage(rest.replace("GUEST", shared[1] if shared else "")) for name, rest in found}
+    return {name: of_usage(rest.replace("GUEST", shared[1] if shared else "")) for name, rest in found if name != "show"}
 
 
 def of_synopsis(text: str) -> Options:

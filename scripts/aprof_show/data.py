@@ -1,18 +1,5 @@
-"""A profile as JSON and as CSV. Keys and columns keep their names and meanings; new ones may be added.
-
-JSON: `format` is "aprof-show 2" (in 1, `plain` was called `own`); `reports` are the files with their `path`, `end`, `steps`
-(instructions) and `open`; `routines` have `entry` (eight hexadecimal digits), `name` (null where there is none), `label` (as
-`show` prints it), `library`, `calls`, `cost` (all calls, with what they call), `share` and `self_share` (of all instructions;
-null without contexts), `growth` and `points`. `growth` is null where there is at most one size other than 0, and else has
-`factor` (times the cost where the size doubles), `exponent`, the exponents `whole`, `top`, `net` and `fit`, `rising`, the last
-one where they rise to it or null, `bent`, that of the greatest cost where the mean cost was judged or null, and `weak`, the
-reason why it is uncertain or null. `cause`, null where none is known, is the routine below with most of the cost: its `entry`
-and `label`, its `share` of this routine's cost, with what it calls, its `calls` from there, whether some are `direct`, and `why`
-they make the routine superlinear, or null. A point has `size`, `calls`, `least`, `most`, `cost`, and the words of input by who wrote them,
-`plain`, `thread`, `kernel` and `bare`, as in the report and null in one of version 1. `contexts`, null without them and where
-routines were named, stand behind their callers: `routine` and `caller` are places in `routines` and `contexts`, `caller` null
-for the outermost ones; `total` and `self` are instructions, and the least that is sure where `open` is true.
-"""
+"""A profile as JSON and as CSV. docs/aprof-show.1 says what the keys and columns mean; they keep their names and meanings, and new
+ones may be added. The format is "aprof-show 2"; in 1, `plain` was called `own`."""
 from __future__ import annotations
 
 import csv

@@ -25,7 +25,7 @@ from aprof_show.fits import fitted_slope, greatest_by_window
 from aprof_show.model import Point, Routine
 
 SUPERLINEAR = 2.3
-"""From this factor on a growth counts as superlinear: n log n is below it from some thousand words on."""
+"""Above this factor a growth counts as superlinear. n log n grows by 2.5 at 16 words, by 2.4 at 32, and by this at 102."""
 
 LEAST_LARGEST = 16
 """Below this largest size no growth counts as superlinear: it is mostly one from case to case."""

@@ -29,8 +29,10 @@ routine's own lines tell. Beside it stand
 """
 
 REST = """WITH CALLEES is the part of all instructions that is spent in the routine and in what
-it calls; ITS OWN, the part in the routine alone. `<=100%` stands where it calls itself
-and only `aprof contexts` can tell; `+` is at least: a call had not returned.
+it calls; ITS OWN, the part in the routine alone. In a report of `run` nested calls of
+a recursive routine are each counted in full, so there it is an upper bound (`<=100%`
+if it would be more); `contexts` has the exact part. `+`: at least so much, as a call
+had not returned.
 `(62% in look_up, 2496 calls, each about linear)` says where most of a routine's cost
 comes from: the routine below it with the greatest own cost, with the short calls and
 those of the C library that it makes. The part is of the routine's cost, with look_up's
@@ -104,7 +106,10 @@ def parser() -> argparse.ArgumentParser:
 def add_choices(result: argparse.ArgumentParser) -> None:
     """The options that choose among routines."""
     add = result.add_argument
-    least = "only routines with at least PERCENT of all instructions with callees (1 without it, and each that is surely superlinear)"
+    least = (
+        "only routines with at least PERCENT of all instructions with callees (1 without it, and each superlinear one that is "
+        "certain or would reach 1 at ten times the size)"
+    )
     order = "sorts by one of these; share: with its callees, self: its own; thread, kernel: the part of the input they wrote"
     add("--routine", metavar="NAME", action="append", default=[], help="this routine alone; may be repeated")
     add("--all", action="store_true", help="all routines")
