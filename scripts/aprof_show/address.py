@@ -2,25 +2,16 @@
 from __future__ import annotations
 
 import os
-import re
-import shutil
-import subprocess
 from bisect import bisect_right
 from collections.abc import Sequence
 from dataclasses import dataclass
 from functools import cache
 
 from aprof_show.model import Routine
-from aprof_show.source import BadImage, demangle, read_symbols
+from aprof_show.source import BadImage, demangle, lines_of_image, read_symbols
 
 NEAR = 64
 """Bytes below an address where a line is looked for: an instruction may have none."""
-
-SYMBOLIZERS = (
-    (["llvm-symbolizer", "--no-inlines", "--functions=none", "--obj"], re.compile(r"^(.+):([0-9]+):[0-9]+$", re.MULTILINE)),
-    (["addr2line", "-e"], re.compile(r"^(.+):([0-9]+)(?: .*)?$", re.MULTILINE)),
-)
-"""Programs that read lines, and the form of what they print."""
 
 
 @dataclass(frozen=True)
@@ -54,15 +45,9 @@ def has_symbols(image: str) -> bool:
 
 def line_at(image: str, addresses: Sequence[int]) -> str | None:
     """FILE:LINE of the first address that has one, where the image has lines and a program is there that reads them."""
-    for command, form in SYMBOLIZERS:
-        if shutil.which(command[0]) is None:
-            continue
-        words = [*command, image, *(f"{address:#x}" for address in addresses)]
-        done = subprocess.run(words, capture_output=True, text=True, errors="replace")
-        found = [(file, line) for file, line in form.findall(done.stdout) if not file.startswith("?") and line != "0"]
-        if found:
-            return f"{found[0][0].removeprefix(os.getcwd() + '/')}:{found[0][1]}"
-    return None
+    lines = lines_of_image(image, addresses, of_entries=False)
+    found = next((lines[address] for address in addresses if address in lines), None)
+    return found.removeprefix(os.getcwd() + "/") if found else None
 
 
 @cache

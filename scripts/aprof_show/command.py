@@ -72,7 +72,7 @@ def run(options: argparse.Namespace) -> int:
         name_by_image(reports, options.image)
     profile = joined(reports)
     wants_lines = options.image and (names or options.callgrind or options.page is not None)
-    lines = lines_of_image(options.image, (routine.entry for routine in profile.routines)) if wants_lines else {}
+    lines = lines_of_image(options.image, (routine.entry for routine in profile.routines), True) if wants_lines else {}
     demangle(profile.routines)
     shorten(profile.routines)
     tell_alike(profile.routines)

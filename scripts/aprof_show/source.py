@@ -92,29 +92,30 @@ def demangle(routines: Iterable[Routine]) -> None:
         left = [routine for routine, name, line in zip(left, names, lines) if line == name]
 
 
-def lines_of_image(path: str, entries: Iterable[int]) -> dict[int, str]:
-    """`file:line` of each entry that has one (`-g`), by one call of the first program that knows any."""
-    wanted = sorted(set(entries))
-    text = "".join(f"{entry:#x}\n" for entry in wanted)
+def lines_of_image(path: str, addresses: Iterable[int], of_entries: bool) -> dict[int, str]:
+    """`file:line` of each address that has one (`-g`), by one call of the first program that knows any: of entries where the
+    routine begins, and else where the address is."""
+    wanted = sorted(set(addresses))
+    text = "".join(f"{address:#x}\n" for address in wanted)
     known: dict[int, str] = {}
     for program in SYMBOLIZERS:
         if program == "llvm-symbolizer":
-            places = places_of_llvm(run([program, f"--obj={path}", "--output-style=JSON", "--no-inlines"], text) or "")
+            places = places_of_llvm(run([program, f"--obj={path}", "--output-style=JSON", "--no-inlines"], text) or "", of_entries)
         else:
             places = [line.split(" (discriminator")[0] for line in (run([program, "-e", path], text) or "").splitlines()]
         if len(places) == len(wanted):
-            known = {entry: place for entry, place in zip(wanted, places) if re.fullmatch(r"[^?].*:[1-9][0-9]*", place)}
+            known = {address: place for address, place in zip(wanted, places) if re.fullmatch(r"[^?].*:[1-9][0-9]*", place)}
         if known:
             break
     return known
 
 
-def places_of_llvm(text: str) -> list[str]:
-    """The file and the line where the routine begins, or else those of its first instruction."""
+def places_of_llvm(text: str, of_entries: bool) -> list[str]:
+    """The file and the line of each address; of an entry, where that is known, those where the routine begins."""
     places = []
     for line in text.splitlines():
         symbol = (json.loads(line).get("Symbol") or [{}])[0]
-        if symbol.get("StartLine"):
+        if of_entries and symbol.get("StartLine"):
             places.append(f"{symbol.get('StartFileName') or symbol.get('FileName')}:{symbol['StartLine']}")
         else:
             places.append(f"{symbol.get('FileName')}:{symbol.get('Line')}")

@@ -88,8 +88,10 @@ class Lines(unittest.TestCase):
             source.write_text("int f(int x)\n{\n    return x * 3;\n}\nvoid _start(void)\n{\n    f(1);\n}\n")
             subprocess.run([*CLANG, "-o", image, source], check=True, capture_output=True)
             entries = {name: address for address, name in read_symbols(str(image))}
-            lines = lines_of_image(str(image), entries.values())
+            lines = lines_of_image(str(image), entries.values(), True)
+            inside = lines_of_image(str(image), [entries["f"], 0], False)
         self.assertEqual(lines, {entries["f"]: f"{source}:1", entries["_start"]: f"{source}:5"})
+        self.assertEqual(inside, {entries["f"]: f"{source}:3"})
 
     def test_without_lines(self) -> None:
-        self.assertEqual(lines_of_image(str(WORDS), [0x12318]), {})
+        self.assertEqual(lines_of_image(str(WORDS), [0x12318], True), {})
