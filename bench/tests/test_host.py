@@ -67,10 +67,12 @@ class Words(unittest.TestCase):
     def test_command_line(self) -> None:
         with tempfile.TemporaryDirectory() as made:
             folder = Path(made)
+            (folder / "report").touch()
             words = Bench(Path("aprof"), folder, host.CONTEXTS).words(b"guest", ["--stamps", "8"])
             self.assertEqual(words[:4], [Path("aprof"), "contexts", "--stamps", "8"])
             self.assertEqual(words[4:], ["--stdin", folder / "stdin", "-o", folder / "report", folder / "guest"])
             self.assertEqual((folder / "guest").read_bytes(), b"guest")
+            self.assertFalse((folder / "report").exists())
             self.assertEqual((folder / "stdin").stat().st_size, 1 << 20)
 
 
