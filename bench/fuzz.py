@@ -23,6 +23,8 @@ import host
 from host import TOP, Ended, Word
 
 SECONDS = 2.0
+LONGEST = 20.0
+"""Seconds of the clock after which a run is killed. A signal is no status of the table."""
 MEMORY = 300 << 20
 STATUSES = {0, 3, 5, 6, 7, 8, 11}
 EXAMPLES = ("bubble", "mutex", "queue", "reader", "routines", "words")
@@ -99,7 +101,7 @@ def broken(rng: random.Random, files: Sequence[bytes]) -> bytes:
 
 
 def limit() -> None:
-    """What the child does before it becomes the program. A run that hangs ends by a signal, which no status of the table is."""
+    """What the child does before it becomes the program. After 10 seconds of the processor the kernel ends it by a signal."""
     resource.setrlimit(resource.RLIMIT_AS, (MEMORY, MEMORY))
     resource.setrlimit(resource.RLIMIT_CPU, (10, 10))
 
@@ -111,7 +113,7 @@ def runs(program: Path, files: Iterator[bytes]) -> Iterator[tuple[bytes, Ended]]
         folder = Path(made)
         for data in files:
             (folder / "img").write_bytes(data)
-            yield data, host.run(words, folder=folder, stderr=subprocess.DEVNULL, before=limit)
+            yield data, host.run(words, folder=folder, stderr=subprocess.DEVNULL, every=0.002, before=limit, longest=LONGEST)
 
 
 @dataclass

@@ -22,6 +22,8 @@ from host import TOP
 
 TICKS = os.sysconf("SC_CLK_TCK")
 KINDS = ("proof", "tests", "first", "edits", "built")
+STARTED = 19
+"""The place among a process's fields of when it was started. With its number that names it, as the system uses numbers again."""
 
 
 @dataclass(frozen=True)
@@ -45,10 +47,9 @@ def fields(pid: str) -> list[str]:
     return read(f"/proc/{pid}/stat").rpartition(")")[2].split()
 
 
-def seconds(pid: str) -> float:
-    """The processor seconds of a process so far."""
-    found = fields(pid)
-    return (int(found[11]) + int(found[12])) / TICKS if len(found) > 12 else 0.0
+def seconds(found: Sequence[str]) -> float:
+    """The processor seconds of a process so far, by its fields."""
+    return (int(found[11]) + int(found[12])) / TICKS
 
 
 def is_below(pid: str, gate: int) -> bool:
@@ -81,14 +82,17 @@ def watch(gate: subprocess.Popen[bytes]) -> dict[tuple[Work, str], float]:
     spent: dict[tuple[Work, str], float] = {}
     while gate.poll() is None:
         for pid in filter(str.isdigit, os.listdir("/proc")):
-            words = read(f"/proc/{pid}/cmdline").split("\0") if pid not in works else []
+            if len(found := fields(pid)) <= STARTED:
+                continue
+            process = f"{pid} {found[STARTED]}"
+            words = read(f"/proc/{pid}/cmdline").split("\0") if process not in works else []
             if words and is_checker(words) and is_below(pid, gate.pid):
-                works[pid] = kind_of(words, begun)
-                if works[pid].kind == "first":
-                    begun.add(works[pid].crate)
-            if pid in works:
-                key = works[pid], pid
-                spent[key] = max(spent.get(key, 0.0), seconds(pid))
+                works[process] = kind_of(words, begun)
+                if works[process].kind == "first":
+                    begun.add(works[process].crate)
+            if process in works:
+                key = works[process], process
+                spent[key] = max(spent.get(key, 0.0), seconds(found))
         time.sleep(0.5)
     return spent
 

@@ -54,6 +54,16 @@ def jal(rd: int, offset: int) -> int:
     )
 
 
+def signed(value: int, bits: int) -> int:
+    """A field of so many bits as a number with a sign."""
+    return value - (1 << bits) if value >> (bits - 1) else value
+
+
+def jal_offset(word: int) -> int:
+    """How many bytes from itself a `jal` goes."""
+    return signed(word >> 31 << 20 | (word >> 12 & 0xFF) << 12 | (word >> 20 & 1) << 11 | (word >> 21 & 0x3FF) << 1, 21)
+
+
 def jalr(rd: int, rs1: int) -> int:
     return i_type(0x67, 0, rd, rs1, 0)
 

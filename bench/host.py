@@ -6,11 +6,13 @@ import argparse
 import os
 import re
 import resource
+import signal
 import subprocess
 import sys
 import time
-from collections.abc import Callable, Sequence
+from collections.abc import Callable, Container, Sequence
 from dataclasses import dataclass
+from math import inf
 from pathlib import Path
 from typing import IO
 
@@ -22,18 +24,30 @@ PROGRAM = TOP / "crates/aprof/out/aprof"
 Word = str | Path
 
 
+def script() -> str:
+    """The name of the script that runs, for what it says."""
+    return f"bench/{Path(sys.argv[0]).name}"
+
+
 def parser(description: str | None) -> argparse.ArgumentParser:
     """The parser of a script's words, whose help is the script's own text."""
-    name = f"bench/{Path(sys.argv[0]).name}"
-    return argparse.ArgumentParser(prog=name, description=description, formatter_class=argparse.RawDescriptionHelpFormatter)
+    shape = argparse.RawDescriptionHelpFormatter
+    return argparse.ArgumentParser(prog=script(), description=description, formatter_class=shape)
 
 
 def program(word: str) -> Path:
     """The program of a word, for a parser."""
     path = Path(word).resolve()
     if not path.exists():
-        raise argparse.ArgumentTypeError(f"there is no {path}")
+        raise argparse.ArgumentTypeError(f"there is no {path}{'; ./aprof builds it' if path == PROGRAM else ''}")
     return path
+
+
+def positive(word: str) -> int:
+    """A number that is at least 1, for a parser."""
+    if int(word) < 1:
+        raise argparse.ArgumentTypeError(f"{word} is less than 1")
+    return int(word)
 
 
 def add_program(to: argparse.ArgumentParser) -> None:
@@ -46,13 +60,15 @@ class NotCounted(Exception):
     """callgrind told no number."""
 
 
-def instructions(command: Sequence[Word], folder: Path | None = None, check: bool = True) -> int:
-    """The host's instructions of a command, without what it prints. Its status has to be 0, unless that is not checked."""
+def instructions(command: Sequence[Word], folder: Path | None = None, statuses: Container[int] = (0,)) -> int:
+    """The host's instructions of a command, without what it prints. Its status has to be one of these."""
     counting = ["valgrind", "--tool=callgrind", "--callgrind-out-file=/dev/null", *command]
-    said = subprocess.run(counting, cwd=folder, stdout=subprocess.DEVNULL, stderr=subprocess.PIPE, check=check).stderr
-    found = re.search(rb"Collected : (\d+)", said)
+    done = subprocess.run(counting, cwd=folder, stdout=subprocess.DEVNULL, stderr=subprocess.PIPE)
+    found = re.search(rb"Collected : (\d+)", done.stderr)
     if found is None:
-        raise NotCounted(said.decode(errors="replace"))
+        raise NotCounted(done.stderr.decode(errors="replace"))
+    if done.returncode not in statuses:
+        raise subprocess.CalledProcessError(done.returncode, counting, stderr=done.stderr)
     return int(found[1])
 
 
@@ -76,27 +92,31 @@ def memory(pid: int) -> int:
     return int(found[1]) if found else 0
 
 
-def watch(child: subprocess.Popen[bytes], every: float) -> tuple[resource.struct_rusage, int]:
-    """Waits for a child, and looks at its memory so often; with 0, the memory is what the kernel tells at the end."""
-    most = 0
+def watch(child: subprocess.Popen[bytes], every: float, longest: float) -> tuple[resource.struct_rusage, int]:
+    """Waits for a child, and looks at its memory at this interval; with 0, the memory is what the kernel tells at the end. A
+    child that is looked at after its longest time is killed."""
+    most, last = 0, time.monotonic() + longest
     while True:
         pid, status, usage = os.wait4(child.pid, os.WNOHANG if every else 0)
         if pid:
             child.returncode = os.waitstatus_to_exitcode(status)
             return usage, most if every else usage.ru_maxrss
         most = max(most, memory(child.pid))
+        if time.monotonic() > last:
+            os.kill(child.pid, signal.SIGKILL)
         time.sleep(every)
 
 
 def run(
     command: Sequence[Word], *, folder: Path | None = None, stderr: int | IO[bytes] | None = None, every: float = 0.0,
-    before: Callable[[], object] | None = None,
+    before: Callable[[], object] | None = None, longest: float = inf,
 ) -> Ended:
     """Runs a command without its standard output, after the child has called `before`. Its memory is looked at `every` so
-    many seconds; with 0 it is the kernel's figure, which also counts what this script had when it started the command."""
+    many seconds, and it is killed after `longest`; with 0 there is no such look, and the memory is the kernel's figure, which
+    also counts what this script had when it started the command."""
     began = time.monotonic()
     child = subprocess.Popen(command, cwd=folder, stdout=subprocess.DEVNULL, stderr=stderr, preexec_fn=before)
-    usage, most = watch(child, every)
+    usage, most = watch(child, every, longest)
     return Ended(child.returncode, time.monotonic() - began, usage.ru_utime + usage.ru_stime, most)
 
 
@@ -147,8 +167,10 @@ class Bench:
     command: Sequence[str] = RUN
 
     def words(self, guest: bytes, options: Sequence[str] = ()) -> list[Word]:
-        """The command line of a run. Its standard input is of 1 MiB, as much as any guest reads."""
+        """The command line of a run, before which no report is there. Its standard input is of 1 MiB, as much as any guest
+        reads."""
         stdin, report, file = (self.folder / name for name in ("stdin", "report", "guest"))
+        report.unlink(missing_ok=True)
         file.write_bytes(guest)
         if not stdin.exists():
             stdin.write_bytes(bytes(1 << 20))
@@ -171,6 +193,5 @@ class Bench:
 
     def cost(self, guest: bytes, options: Sequence[str] = ()) -> Cost:
         """The cost of a run, with the program's start."""
-        (self.folder / "report").unlink(missing_ok=True)
         host = instructions(self.words(guest, options))
         return Cost(self.steps(), host)

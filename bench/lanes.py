@@ -310,7 +310,7 @@ class Program:
     def cost(self, kernel: int, width: int, by_lanes: bool) -> float:
         """The host's instructions of a round, with the kernel or with the plain loop."""
         words: list[Word] = [self.path, str(kernel), str(width), str(int(by_lanes))]
-        few, many = (host.instructions([*words, rounds], check=False) for rounds in ("10", "110"))
+        few, many = (host.instructions([*words, rounds], statuses=(0, 1)) for rounds in ("10", "110"))
         return (many - few) / 100
 
     def body(self, function: str) -> str:

@@ -127,15 +127,15 @@ class Calls:
 
     def call(self, number: int) -> Left:
         """One call, with this allocation refused; 0 refuses none."""
-        folder = self.folder / str(number)
-        folder.mkdir()
-        for file in (ROW / "files").iterdir():
-            (folder / file.name).write_bytes(file.read_bytes())
-        command: list[Word] = [self.program, *(ROW / "words").read_text().split("\n")[:-1]]
-        names = {"LD_PRELOAD": str(self.shim), "REFUSE": str(number), "REFUSED_COUNT": str(folder / "count")}
-        run = subprocess.run(command, cwd=folder, env=names, stdin=subprocess.DEVNULL, capture_output=True, timeout=60)
-        count = int(stored(folder / "count") or 0)
-        return Left(run.returncode, run.stdout, run.stderr, stored(folder / "k"), stored(folder / "r"), count)
+        with tempfile.TemporaryDirectory(dir=self.folder) as made:
+            folder = Path(made)
+            for file in (ROW / "files").iterdir():
+                (folder / file.name).write_bytes(file.read_bytes())
+            command: list[Word] = [self.program, *(ROW / "words").read_text().split("\n")[:-1]]
+            names = {"LD_PRELOAD": str(self.shim), "REFUSE": str(number), "REFUSED_COUNT": str(folder / "count")}
+            run = subprocess.run(command, cwd=folder, env=names, stdin=subprocess.DEVNULL, capture_output=True, timeout=60)
+            count = int(stored(folder / "count") or 0)
+            return Left(run.returncode, run.stdout, run.stderr, stored(folder / "k"), stored(folder / "r"), count)
 
 
 def is_part(left: Left, whole: Left) -> bool:
@@ -172,8 +172,8 @@ def options_of() -> argparse.Namespace:
     """The words of the command line."""
     parser = host.parser(__doc__)
     parser.add_argument("program", metavar="PROGRAM", type=host.program, help="the built aprof")
-    parser.add_argument("first", metavar="FIRST", nargs="?", type=int, default=1, help="the first refused; 1 unless given")
-    parser.add_argument("step", metavar="STEP", nargs="?", type=int, default=1, help="from one to the next; 1 unless given")
+    parser.add_argument("first", metavar="FIRST", nargs="?", type=host.positive, default=1, help="first refused; 1 unless given")
+    parser.add_argument("step", metavar="STEP", nargs="?", type=host.positive, default=1, help="to the next one; 1 unless given")
     return parser.parse_args()
 
 

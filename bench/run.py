@@ -1,7 +1,7 @@
 #!/usr/bin/env python3
 """bench/run.py [PROGRAM]: times the built program on guests of its own, each at two lengths of run, and prints the steps,
 the seconds, the nanoseconds for a step, and how these compare with the first guest's. Growth with the length of a run shows
-as a second ratio above the first. The figures are of one run on one machine.
+as a second ratio above the first. Each figure is the least of three runs.
 
 bench/run.py --long [PROGRAM] times runs of some 100 million steps, with the most memory of each.
 
@@ -173,6 +173,8 @@ def long_runs(bench: Bench) -> None:
     print("|---|---|---|---|---|")
     for guest in LONG:
         ended = host.run(bench.words(image(guest.make(guest.steps))), every=0.02)
+        if ended.status:
+            raise SystemExit(f"bench/run.py: {guest.name} ended with status {ended.status}")
         made = bench.steps()
         times = f"{ended.clock:.1f} | {ended.clock / made * 1e9:.0f}"
         print(f"| {guest.name} | {made} | {times} | {ended.memory / 1024:.1f} MiB |", flush=True)

@@ -1,8 +1,8 @@
 #!/usr/bin/env python3
-"""bench/slow.py [--program PATH] [--at SCALE] [NAME ...]: compares `aprof run` with the definitions on the real programs of
-bench/real.py. It records the trace of each (`aprof trace`), makes the report of that trace as docs/DEFINITIONS.md says, with
-no stamps and no sums of frames, and compares its text with the one that `aprof run` stores. A program whose trace is too
-large is left out. The status is 1 where a text differs."""
+"""bench/slow.py [--program PATH] [--folder PATH] [--at SCALE] [NAME ...]: compares `aprof run` with the definitions on the
+real programs of bench/real.py. It records the trace of each (`aprof trace`), makes the report of that trace as
+docs/DEFINITIONS.md says, with no stamps and no sums of frames, and compares its text with the one that `aprof run` stores. A
+program whose trace is too large is left out. The status is 1 where a text differs, or none was compared."""
 from __future__ import annotations
 
 import argparse
@@ -10,12 +10,11 @@ import struct
 import sys
 from collections.abc import Iterator, Sequence
 from dataclasses import dataclass, field
-from pathlib import Path
 
 import host
 from real import building
-from real.command import chosen
-from real.measuring import Bench
+from real.command import add_places, chosen
+from real.measuring import GuestBench
 
 MAGIC = b"aprof trace 1\n"
 STEP, READ, WRITE, FILL, CALL, RETURN, START, END, NAME, LAST = range(1, 11)
@@ -185,7 +184,7 @@ def report_of(trace: bytes) -> str:
     return "\n".join([*lines, f"done {len(profile.points)}", ""])
 
 
-def compare(bench: Bench, scale: int) -> str:
+def compare(bench: GuestBench, scale: int) -> str:
     """What a program's report by the definitions is beside the stored one."""
     run = bench.run("run", scale)
     trace = bench.folder / "trace"
@@ -200,12 +199,10 @@ def compare(bench: Bench, scale: int) -> str:
 
 def options_of(words: Sequence[str]) -> argparse.Namespace:
     """The words of the command line."""
-    shape = argparse.RawDescriptionHelpFormatter
-    parser = argparse.ArgumentParser(prog="bench/slow.py", description=__doc__, formatter_class=shape)
+    parser = host.parser(__doc__)
     parser.add_argument("names", metavar="NAME", nargs="*", help="these programs alone")
-    parser.add_argument("--program", type=Path, default=host.PROGRAM, help="the built aprof")
-    parser.add_argument("--at", metavar="SCALE", type=int, default=1, help="the size of the input; 1 unless given")
-    parser.add_argument("--folder", type=Path, default=building.TOP / "build/real", help="of sources, guests and reports")
+    add_places(parser)
+    parser.add_argument("--at", metavar="SCALE", type=host.positive, default=1, help="the size of the input; 1 unless given")
     return parser.parse_args(words)
 
 
@@ -215,17 +212,18 @@ def main(words: Sequence[str]) -> int:
     recipes, folder = chosen(options.names), options.folder.resolve()
     building.compiler()
     building.fetch(recipes, folder / "sources")
-    status = 0
+    compared, differs = 0, False
     for recipe in recipes:
         try:
             guest = building.build(recipe, folder / "sources", folder / "guests")
-            bench = Bench(options.program.resolve(), recipe, guest, folder / "runs" / guest.name)
+            bench = GuestBench(options.program, recipe, guest, folder / "runs" / guest.name)
             told = compare(bench, options.at)
+            compared += 1
+            differs |= told.startswith("DIFFERS")
         except building.LeftOut as reason:
             told = f"left out: {reason}"
-        status |= told.startswith("DIFFERS")
         print(f"{recipe.name}: {told}", flush=True)
-    return int(status)
+    return 1 if differs or not compared else 0
 
 
 if __name__ == "__main__":

@@ -1,14 +1,15 @@
 #!/usr/bin/env bash
 # Builds a guest without a C library, with clang and ld.lld: `build.sh program.c [more.c ...]` makes `program` beside the first
-# file, which may be assembly. The compiler's own library (64-bit division, floats) is taken from examples/musl, where it was
-# set up.
+# file, which may be assembly. The compiler's own library (64-bit division, floats) is taken from where musl/setup.sh has put
+# it, if it has.
 set -eu
 if [ $# -eq 0 ]; then
   echo "usage: build.sh PROGRAM.c|PROGRAM.s [MORE ...]" >&2
   exit 1
 fi
-here=$(cd "$(dirname "$0")" && pwd)
-own_library=$here/musl/library/lib/libgcc.a
+here=$(dirname "$(readlink -f "$0")")
+. "$here/musl/debian.sh"
+own_library=$(library_of "$here/musl")/lib/libgcc.a
 [ -e "$own_library" ] || own_library=
 clang --target=riscv32 -march=rv32ima -mabi=ilp32 -static -nostdlib -ffreestanding -fuse-ld=lld \
   -O1 -fno-inline -fno-builtin -fno-optimize-sibling-calls -fno-unroll-loops -Wall -Wextra -I "$here" \

@@ -119,8 +119,8 @@ def changed(top: Path) -> str:
 
 
 def newer_source(top: Path) -> Path | None:
-    """A source of the program that changed after it was built. The launcher has this rule too, and looks at folders: a source
-    that is gone is one that isn't as in the commit."""
+    """A source of the program that changed after it was built. The launcher has this rule too, and looks at folders for a source
+    that was deleted, which `changed` reports here."""
     built = (top / STAMP).stat().st_mtime_ns
     found = [top / "crates.txt", top / "HANDLES"]
     for folder, folders, files in os.walk(top / "crates"):

@@ -4,10 +4,12 @@ in the table of PROOFS.md is one of its crate, each file of definitions that the
 each count below is that of the sources. Status 0 where all is so."""
 from __future__ import annotations
 
+import os
 import re
 import sys
 from collections.abc import Callable, Iterator
 from dataclasses import dataclass
+from fnmatch import fnmatch
 from functools import cache
 from pathlib import Path
 
@@ -19,22 +21,40 @@ PROVED = (".rt", ".antt", ".edit")
 SOURCES = (*PROVED, ".py", ".sh", ".c", ".h", ".txt", ".ld", "")
 
 
-def is_built(path: Path) -> bool:
-    return bool({"out", ".git", "__pycache__"} & set(path.relative_to(TOP).parts))
-
-
-@cache
-def files(folder: Path, *suffixes: str) -> tuple[Path, ...]:
-    """The files of a folder and all under it with these suffixes, but for what was built."""
-    return tuple(path for path in sorted(folder.rglob("*")) if path.suffix in suffixes and path.is_file() and not is_built(path))
-
-
 @cache
 def text_of(path: Path) -> str:
     try:
         return path.read_text()
     except UnicodeDecodeError:
         return ""
+
+
+@cache
+def ignored() -> tuple[str, ...]:
+    """The patterns of .gitignore, which names what is built, fetched and measured, without the slash of folders."""
+    return (".git", *(line.rstrip("/") for line in text_of(TOP / ".gitignore").split()))
+
+
+def is_source(path: Path) -> bool:
+    """Whether no pattern of .gitignore is of a file or a folder; one with a slash is of the path, another one of the name."""
+    whole = path.relative_to(TOP).as_posix()
+    return not any(fnmatch(whole if "/" in pattern else path.name, pattern.lstrip("/")) for pattern in ignored())
+
+
+@cache
+def sources() -> tuple[Path, ...]:
+    """All files of the repository."""
+    found = []
+    for folder, folders, names in os.walk(TOP):
+        folders[:] = [name for name in folders if is_source(Path(folder, name))]
+        found += [path for name in names if is_source(path := Path(folder, name)) and path.is_file()]
+    return tuple(sorted(found))
+
+
+@cache
+def files(folder: Path, *suffixes: str) -> tuple[Path, ...]:
+    """The files of a folder and all under it with these suffixes."""
+    return tuple(path for path in sources() if path.suffix in suffixes and path.is_relative_to(folder))
 
 
 @cache
@@ -83,14 +103,19 @@ def clauses_of(crate: str) -> frozenset[str]:
 
 
 def unknown_clauses(table: str) -> Iterator[str]:
-    """The names in the last column of a table's rows `| promise | crate | function | clauses |` that are no clause of the crate."""
+    """The names in the last column of a table's rows `| promise | crate | function | clauses |` that are no clause of the crate,
+    and the crates that are not there."""
     for line in table.splitlines():
-        cells = [cell.strip() for cell in line.strip().strip("|").split(" | ")]
-        if len(cells) == 4 and (CRATES / cells[1].strip("| ") / "src").is_dir():
-            crate = cells[1].strip("| ")
-            for name in spans(cells[3]):
-                if re.fullmatch(r"\w+", name) and name not in clauses_of(crate):
-                    yield f"{crate}: {name}"
+        cells = [cell.strip("| ") for cell in line.strip().strip("|").split(" | ")]
+        if not line.startswith("|") or len(cells) != 4 or cells[1] in ("Crate", "all"):
+            continue
+        crate = cells[1]
+        if not (CRATES / crate / "src").is_dir():
+            yield f"no crate {crate}"
+            continue
+        for name in spans(cells[3]):
+            if re.fullmatch(r"\w+", name) and name not in clauses_of(crate):
+                yield f"no clause {crate}: {name}"
 
 
 # What is counted.
@@ -184,7 +209,7 @@ def mistakes() -> Iterator[str]:
         text, name = text_of(document), document.relative_to(TOP)
         yield from (f"{name}: `{span}` is no name of the sources" for span in unknown_names(text))
         yield from (f"{name}: no file {path}" for path in missing_files(text))
-    yield from (f"docs/PROOFS.md: no clause {clause}" for clause in unknown_clauses(text_of(TOP / "docs/PROOFS.md")))
+    yield from (f"docs/PROOFS.md: {mistake}" for mistake in unknown_clauses(text_of(TOP / "docs/PROOFS.md")))
     definitions = text_of(TOP / "docs/DEFINITIONS.md")
     yield from (f"docs/DEFINITIONS.md: does not name {file}" for file in unnamed(headline_files(CRATES), definitions))
     yield from (mistake for mistake in map(wrong_count, COUNTS) if mistake)

@@ -4,7 +4,7 @@
     scripts/check_tutorials.py [--fresh] [PROGRAM] [TUTORIAL ...]
 
 In a block ```console of a page a line `$ COMMAND` is run by bash, in a copy of the page's folder, with `> ` before its
-further lines; the lines behind it are what it prints, and a line `...` is any lines. A command has status 0, or its next one
+further lines; the lines after it are what it prints, and a line `...` is any lines. A command has status 0, or its next one
 is `echo $?`. A block ```console needs TOOL ... is left out, with a word about it, where a tool is missing. What a page
 builds has to be the executable that is stored beside it. PROGRAM is the built program, crates/aprof/out/aprof without it.
 --fresh writes what is printed into the pages. Status 0 where all that ran was as the pages have it.
@@ -12,10 +12,12 @@ builds has to be the executable that is stored beside it. PROGRAM is the built p
 from __future__ import annotations
 
 import argparse
+import contextlib
 import difflib
 import os
 import re
 import shutil
+import signal
 import subprocess
 import sys
 import tempfile
@@ -23,6 +25,9 @@ import time
 from collections.abc import Iterator
 from dataclasses import dataclass, field
 from pathlib import Path
+
+from aprof_show.page import LIBRARY as CHART
+from musl_library import MUSL, library
 
 TOP = Path(__file__).resolve().parent.parent
 TUTORIALS = TOP / "examples" / "tutorials"
@@ -93,11 +98,9 @@ def fits(pattern: list[str], lines: list[str]) -> bool:
 def missing(tool: str) -> str:
     """Why the tool can't be used, or nothing."""
     if tool == "musl":
-        library = TOP / "examples" / "musl" / "library" / "lib" / "libc.a"
-        return "" if library.exists() else "no C library (examples/musl/setup.sh)"
+        return "" if (library() / "lib" / "libc.a").exists() else "no C library (examples/musl/setup.sh)"
     if tool == "chart.js":
-        chart = Path("/usr/share/javascript/chart.js/chart.min.js")
-        return "" if chart.exists() else "no Chart.js (Debian's package libjs-chart.js)"
+        return "" if CHART.exists() else "no Chart.js (Debian's package libjs-chart.js)"
     name = re.sub("-[0-9.]+$", "", tool)
     version = tool[len(name) + 1 :]
     if shutil.which(name) is None:
@@ -109,9 +112,9 @@ def missing(tool: str) -> str:
 
 
 def commands_folder(folder: Path, program: Path) -> Path:
-    """The commands that an installed package has."""
+    """A folder of the commands of an installed package that the pages use."""
     folder.mkdir()
-    show, cc = TOP / "show", TOP / "examples" / "musl" / "cc"
+    show, cc = TOP / "show", MUSL / "cc"
     texts = {
         "aprof": f'if [ "${{1-}}" = show ]; then shift; exec "{show}" "$@"; fi\nexec "{program}" "$@"',
         "aprof-cc": f'exec "{cc}" "$@"',
@@ -120,6 +123,19 @@ def commands_folder(folder: Path, program: Path) -> Path:
         (folder / name).write_text(f"#!/bin/sh\n{text}\n")
         (folder / name).chmod(0o755)
     return folder
+
+
+def run_in(folder: Path, text: str, environment: dict[str, str]) -> tuple[int, bytes]:
+    """The status of a text that bash runs, and what it prints. At a timeout all that it has started is killed."""
+    with subprocess.Popen(["bash", "-c", text], cwd=folder, env=environment, stdin=subprocess.DEVNULL,
+                          stdout=subprocess.PIPE, stderr=subprocess.STDOUT, start_new_session=True) as bash:
+        try:
+            printed, _ = bash.communicate(timeout=LONGEST)
+        except BaseException:
+            with contextlib.suppress(ProcessLookupError):
+                os.killpg(bash.pid, signal.SIGKILL)
+            raise
+    return bash.returncode, printed
 
 
 class Page:
@@ -132,7 +148,8 @@ class Page:
         self.copy = scratch / folder.name
         shutil.copytree(folder, self.copy)
         self.environment = {name: value for name, value in os.environ.items() if name not in ("COLUMNS", "PARALLEL")}
-        self.environment |= {"PATH": f"{commands}:{os.environ['PATH']}", "LC_ALL": "C.UTF-8", "PYTHONDONTWRITEBYTECODE": "1"}
+        self.environment |= {"PATH": f"{commands}:{os.environ['PATH']}", "APROF_MUSL": str(library()),
+                             "LC_ALL": "C.UTF-8", "PYTHONDONTWRITEBYTECODE": "1"}
         self.status = 0
         self.faults: list[str] = []
         self.left_out: list[str] = []
@@ -154,15 +171,12 @@ class Page:
         asks_status = command.text == "echo $?"
         if self.status and not asks_status:
             self.faults.append(f"before line {command.line}: status {self.status}")
-        text = f"(exit {self.status})\n{command.text}"
         try:
-            done = subprocess.run(["bash", "-c", text], cwd=self.copy, env=self.environment, stdin=subprocess.DEVNULL,
-                                  stdout=subprocess.PIPE, stderr=subprocess.STDOUT, timeout=LONGEST)
+            self.status, printed = run_in(self.copy, f"(exit {self.status})\n{command.text}", self.environment)
         except subprocess.TimeoutExpired:
             self.faults.append(f"line {command.line}: more than {LONGEST} seconds")
             return
-        self.status = done.returncode
-        lines = done.stdout.decode("utf-8", "replace").splitlines()
+        lines = printed.decode("utf-8", "replace").splitlines()
         self.fresh.append((command, lines))
         if not fits(command.printed, lines):
             self.faults.append(f"line {command.line}: $ {command.text}")

@@ -1,7 +1,7 @@
 #!/usr/bin/env python3
 """Writes aprof_show/musl-names.txt: the functions of musl and libgcc, global and static, that `show` folds into one line.
 
-Run it behind examples/musl/setup.sh, where another version of musl is taken. It needs llvm-nm.
+Run it after examples/musl/setup.sh, where another version of musl is taken. It needs llvm-nm.
 """
 from __future__ import annotations
 
@@ -9,8 +9,9 @@ import subprocess
 import textwrap
 from pathlib import Path
 
+from musl_library import library
+
 HERE = Path(__file__).resolve().parent
-LIBRARY = HERE.parent / "examples/musl/library/lib"
 
 
 def functions(archive: Path) -> set[str]:
@@ -21,7 +22,7 @@ def functions(archive: Path) -> set[str]:
 
 
 def main() -> None:
-    names = set().union(*(functions(LIBRARY / name) for name in ("libc.a", "libgcc.a", "crt1.o")))
+    names = set().union(*(functions(library() / "lib" / name) for name in ("libc.a", "libgcc.a", "crt1.o")))
     text = textwrap.fill(" ".join(sorted(names)), 120, break_long_words=False, break_on_hyphens=False)
     (HERE / "aprof_show/musl-names.txt").write_text(text + "\n", encoding="ascii")
 

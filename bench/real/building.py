@@ -7,17 +7,18 @@ import subprocess
 from collections.abc import Sequence
 from pathlib import Path
 
+import host
+from host import TOP
 from real.recipes import Recipe
 
-TOP = Path(__file__).resolve().parents[2]
 MUSL = TOP / "examples" / "musl"
 
 FETCH = """
 . "$1"
-need_tools bench/real.py apt-get dpkg-source
-folder=$2
-shift 2
-begin_apt bench/real.py bookworm
+script=$2 folder=$3
+shift 3
+need_tools "$script" apt-get dpkg-source
+begin_apt "$script" bookworm
 for package; do
   rm -rf "$folder/$package"
   mkdir -p "$folder/$package"
@@ -34,11 +35,16 @@ class LeftOut(Exception):
     """A program that can't be fetched, built or run, with the reason."""
 
 
+def library() -> Path:
+    """The folder of the C library, as debian.sh decides it for the scripts of examples/musl."""
+    words = ["bash", "-c", '. "$1/debian.sh"; library_of "$1"', "library", str(MUSL)]
+    return Path(subprocess.run(words, stdout=subprocess.PIPE, text=True, check=True).stdout.removesuffix("\n"))
+
+
 def compiler() -> Path:
     """The compiler of the guests."""
-    library = Path(os.environ.get("APROF_MUSL", MUSL / "library"))
-    if not (library / "lib" / "libc.a").exists():
-        raise SystemExit("bench/real.py: there is no C library yet; this makes one: examples/musl/setup.sh")
+    if not (library() / "lib" / "libc.a").exists():
+        raise SystemExit(f"{host.script()}: there is no C library yet; this makes one: examples/musl/setup.sh")
     return MUSL / "cc"
 
 
@@ -49,13 +55,16 @@ def fetch(recipes: Sequence[Recipe], folder: Path) -> None:
         return
     folder.mkdir(parents=True, exist_ok=True)
     with (folder / "fetch.log").open("w") as log:
-        command = ["bash", "-c", FETCH, "fetch", str(MUSL / "debian.sh"), str(folder), *dict.fromkeys(missing)]
+        command = ["bash", "-c", FETCH, "fetch", str(MUSL / "debian.sh"), host.script(), str(folder), *dict.fromkeys(missing)]
         subprocess.run(command, stdout=log, stderr=subprocess.STDOUT)
 
 
 def version(recipe: Recipe, sources: Path) -> str:
     """The package of a recipe with its version, by the name of its description."""
-    return " ".join(next((sources / recipe.package).glob("*.dsc")).stem.split("_", 1))
+    description = next((sources / recipe.package).glob("*.dsc"), None)
+    if description is None:
+        raise LeftOut(f"its package {recipe.package} has no description in {sources / recipe.package}")
+    return " ".join(description.stem.split("_", 1))
 
 
 def last_line(log: Path) -> str:
@@ -80,6 +89,7 @@ def build(recipe: Recipe, sources: Path, guests: Path) -> Path:
     shutil.rmtree(work, ignore_errors=True)
     shutil.copytree(source, work, symlinks=True)
     names = {"CC": str(compiler()), "GUEST": str(guest), "DRIVERS": str(Path(__file__).parent / "drivers")}
+    names["APROF_MUSL"] = str(library())  # a relative path would be of the copy
     log = guest.with_suffix(".log")
     with log.open("w") as file:
         command = ["bash", "-c", recipe.make]

@@ -15,8 +15,9 @@ import sys
 from collections.abc import Sequence
 from pathlib import Path
 
+import host
 from real import building, refused
-from real.measuring import Bench, Run, first_routine
+from real.measuring import GuestBench, Run, first_routine
 from real.recipes import RECIPES, Recipe
 
 HEADING = ("Program", "Million steps at {sizes}", "Seconds", "ns a step", "Host instructions a step", "MiB", "Points",
@@ -34,14 +35,15 @@ def row(cells: Sequence[str]) -> str:
     return "| " + " | ".join(cell.replace("|", "\\|") for cell in cells) + " |"
 
 
-def measure(bench: Bench, sizes: Sequence[int], host: bool) -> list[str]:
-    """The cells of a program, behind its name."""
+def measure(bench: GuestBench, sizes: Sequence[int], with_host: bool) -> list[str]:
+    """The cells of a program, after its name."""
     runs: list[Run] = [bench.run("run", size) for size in sizes]
     last, steps = runs[-1], [run.report.steps for run in runs]
     contexts = bench.run("contexts", sizes[len(sizes) // 2])
     counted = "-"
-    if host and len(sizes) > 1 and steps[1] > steps[0]:
-        counted = f"{(bench.host(sizes[1]) - bench.host(sizes[0])) / (steps[1] - steps[0]):.0f}"
+    if with_host and len(sizes) > 1 and steps[1] > steps[0]:
+        few, many = (bench.host_instructions(size) for size in sizes[:2])
+        counted = f"{(many - few) / (steps[1] - steps[0]):.0f}"
     return [
         " / ".join(millions(number) for number in steps),
         f"{last.seconds:.1f}",
@@ -60,7 +62,7 @@ def chosen(names: Sequence[str]) -> list[Recipe]:
     unknown = set(names) - {name for recipe in RECIPES for name in (recipe.name, recipe.name.split()[0])}
     if unknown:
         every = ", ".join(recipe.name.split()[0] for recipe in RECIPES)
-        raise SystemExit(f"bench/real.py: no program {min(unknown)}; there are {every}")
+        raise SystemExit(f"{host.script()}: no program {min(unknown)}; there are {every}")
     return [recipe for recipe in RECIPES if not names or {recipe.name, recipe.name.split()[0]} & set(names)]
 
 
@@ -72,27 +74,30 @@ def scales(text: str) -> list[int]:
     return found
 
 
+def add_places(to: argparse.ArgumentParser) -> None:
+    """Adds the options of the program and of the folder."""
+    to.add_argument("--program", metavar="PATH", type=host.program, default=str(host.PROGRAM), help="the built aprof")
+    folder = host.TOP / "build/real"
+    to.add_argument("--folder", metavar="PATH", type=Path, default=folder, help="of sources, guests and reports")
+
+
 def options_of(words: Sequence[str]) -> argparse.Namespace:
     """The options of the command line."""
-    shape = argparse.RawDescriptionHelpFormatter
-    parser = argparse.ArgumentParser(prog="bench/real.py", description=__doc__, formatter_class=shape)
+    parser = host.parser(__doc__)
     parser.add_argument("--only", metavar="NAME", action="append", default=[], help="this program alone; may be repeated")
     parser.add_argument("--sizes", type=scales, default=[1, 10, 100], help="1,10,100 unless given")
-    parser.add_argument("--program", type=Path, default=building.TOP / "crates/aprof/out/aprof", help="the built aprof")
-    parser.add_argument("--folder", type=Path, default=building.TOP / "build/real", help="of sources, guests and reports")
-    parser.add_argument("--no-host", dest="host", action="store_false", help="without callgrind, which takes the most time")
+    add_places(parser)
+    parser.add_argument("--no-host", dest="with_host", action="store_false", help="without callgrind, which takes the most time")
     return parser.parse_args(words)
 
 
 def main(words: Sequence[str]) -> int:
     """Prints the table; the status is 1 where a program is left out."""
     options = options_of(words)
-    recipes, folder, program = chosen(options.only), options.folder.resolve(), options.program.resolve()
-    if not program.exists():
-        raise SystemExit(f"bench/real.py: there is no {program}; ./aprof builds it")
-    host = options.host and shutil.which("valgrind") is not None
-    if host != options.host:
-        print("bench/real.py: host instructions are not counted: no valgrind (Debian's package valgrind)", file=sys.stderr)
+    recipes, folder = chosen(options.only), options.folder.resolve()
+    with_host = options.with_host and shutil.which("valgrind") is not None
+    if with_host != options.with_host:
+        print(f"{host.script()}: host instructions are not counted: no valgrind (Debian's package valgrind)", file=sys.stderr)
     building.compiler()
     building.fetch(recipes, folder / "sources")
     left_out = []
@@ -101,9 +106,9 @@ def main(words: Sequence[str]) -> int:
     for recipe in recipes:
         try:
             guest = building.build(recipe, folder / "sources", folder / "guests")
-            bench = Bench(program, recipe, guest, folder / "runs" / guest.name)
+            bench = GuestBench(options.program, recipe, guest, folder / "runs" / guest.name)
             name = f"{recipe.name} ({building.version(recipe, folder / 'sources')})"
-            print(row([name, *measure(bench, options.sizes, host)]), flush=True)
+            print(row([name, *measure(bench, options.sizes, with_host)]), flush=True)
         except building.LeftOut as reason:
             left_out.append(f"{recipe.name} is left out: {reason}")
     print("".join(f"\n{line}" for line in left_out))

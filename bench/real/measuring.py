@@ -8,8 +8,8 @@ from dataclasses import dataclass
 from pathlib import Path
 
 import host
-from host import Word
-from real.building import TOP, LeftOut
+from host import TOP, Word
+from real.building import LeftOut
 from real.recipes import Recipe
 
 
@@ -44,7 +44,7 @@ def read_report(text: str) -> Report:
     return Report(told["end"], int(told["steps"]), points, contexts)
 
 
-class Bench:
+class GuestBench:
     """A guest with its inputs in a folder of its own, under one program."""
 
     def __init__(self, program: Path, recipe: Recipe, guest: Path, folder: Path) -> None:
@@ -78,12 +78,14 @@ class Bench:
             raise LeftOut(f"aprof {command} at {scale}: the guest ended with {report.end}")
         return Run(report, path, ended.processor, ended.memory / 1024)
 
-    def host(self, scale: int) -> int:
+    def host_instructions(self, scale: int) -> int:
         """The host's instructions of a run, by callgrind."""
         try:
-            return host.instructions(self.words("run", scale, "counted"), self.folder, check=False)
+            return host.instructions(self.words("run", scale, "counted"), self.folder)
         except host.NotCounted:
             raise LeftOut(f"valgrind on aprof run at {scale} counted nothing") from None
+        except subprocess.CalledProcessError as error:
+            raise LeftOut(f"aprof run at {scale} ended with {error.returncode} under valgrind") from None
 
 
 def first_routine(paths: Sequence[Path]) -> str:

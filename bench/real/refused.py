@@ -13,10 +13,12 @@ from collections.abc import Iterator, Sequence
 from pathlib import Path
 from typing import TYPE_CHECKING
 
-from real.building import MUSL, TOP, LeftOut
+from guests import jal_offset, signed
+from host import TOP
+from real.building import LeftOut, library
 
 if TYPE_CHECKING:
-    from real.measuring import Bench
+    from real.measuring import GuestBench
 
 TABLE = TOP / "crates/guest_calls/specs/Table.antt"
 ECALL, EBREAK = 0x00000073, 0x00100073
@@ -33,22 +35,17 @@ def known() -> set[int]:
 
 def names() -> dict[int, str]:
     """The names of the kernel's calls, from the C library."""
-    text = (MUSL / "library/include/bits/syscall.h").read_text()
+    text = (library() / "include/bits/syscall.h").read_text()
     return {int(number): name for name, number in re.findall(r"#define __NR_(\w+)\s+(\d+)", text)}
 
 
-def sections(image: bytes) -> Iterator[tuple[int, int, int]]:
+def segments(image: bytes) -> Iterator[tuple[int, int, int]]:
     """Address, offset and size in the file of each executable segment."""
     (begin,), (size, count) = struct.unpack_from("<I", image, 28), struct.unpack_from("<HH", image, 42)
     for k in range(count):
         kind, offset, address, _, held, _, flags, _ = struct.unpack_from("<8I", image, begin + k * size)
         if kind == 1 and flags & 1:
             yield address, offset, held
-
-
-def signed(value: int, bits: int) -> int:
-    """A field of so many bits as a number with a sign."""
-    return value - (1 << bits) if value >> (bits - 1) else value
 
 
 def constant(code: list[int], at: int, register: int) -> int | None:
@@ -66,8 +63,7 @@ def target(code: list[int], at: int, address: int) -> int | None:
     if word & 0xFFF == JALR | 1 << 7 and at and code[at - 1] & 127 == AUIPC and code[at - 1] >> 7 & 31 == word >> 15 & 31:
         return (address - 4 + (code[at - 1] & 0xFFFFF000) + signed(word >> 20, 12)) % 2**32
     if word & 0xFFF == JAL | 1 << 7:
-        field = word >> 31 << 20 | (word >> 12 & 255) << 12 | (word >> 20 & 1) << 11 | (word >> 21 & 1023) << 1
-        return (address + signed(field, 21)) % 2**32
+        return (address + jal_offset(word)) % 2**32
     return None
 
 
@@ -75,7 +71,7 @@ def sites(image: bytes, waiting: set[int]) -> dict[int, tuple[int, int | None]]:
     """By address, the offset in the file and the number, if it is known, of each call of the kernel; waiting are the
     addresses of the routines that take it as their first argument."""
     found: dict[int, tuple[int, int | None]] = {}
-    for address, offset, size in sections(image):
+    for address, offset, size in segments(image):
         code = list(struct.unpack_from(f"<{size // 4}I", image, offset))
         for k, word in enumerate(code):
             here = address + 4 * k
@@ -96,7 +92,7 @@ def waiting_routines(guest: Path) -> set[int]:
 class Probe:
     """An executable whose unknown calls of the kernel are breakpoints, each until it is reached."""
 
-    def __init__(self, bench: Bench, scale: int) -> None:
+    def __init__(self, bench: GuestBench, scale: int) -> None:
         self.bench, self.scale = bench, scale
         self.image = bytearray(bench.guest.read_bytes())
         waiting, taken = waiting_routines(bench.guest), known()
@@ -123,10 +119,14 @@ class Probe:
         return report.read_text().splitlines()[1].removeprefix("end ") if report.exists() else "no report"
 
     def numbers(self, words: Sequence[str]) -> tuple[set[int], str]:
-        """The numbers of the unknown calls that a run makes, and how it ends when they are answered."""
+        """The numbers of the unknown calls that a run makes, and how it ends when they are answered. A breakpoint of the guest
+        itself ends it too."""
         found: set[int] = set()
         while fault := re.fullmatch(r"fault 7 \d+ ([0-9a-f]{8})", end := self.end(words)):
-            offset, number = self.asked.pop(int(fault[1], 16))
+            asked = self.asked.pop(int(fault[1], 16), None)
+            if asked is None:
+                break
+            offset, number = asked
             self.put(offset, self.before[offset])
             found.add(number)
         return found, end
@@ -138,7 +138,7 @@ def told(numbers: set[int]) -> str:
     return ", ".join(named.get(number, str(number)) for number in sorted(numbers)) or "none"
 
 
-def calls(bench: Bench, scale: int) -> str:
+def calls(bench: GuestBench, scale: int) -> str:
     """The names of the calls that answer ENOSYS in a run, and in one that reads its input as a file, if there is such a
     one."""
     expected = f"exit {bench.recipe.status}"

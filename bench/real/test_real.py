@@ -2,10 +2,15 @@
 from __future__ import annotations
 
 import json
+import os
 import struct
+import sys
+import tempfile
 import unittest
+from pathlib import Path
+from unittest import mock
 
-from real import command, inputs, refused
+from real import building, command, inputs, refused
 from real.measuring import read_report, routine_of
 from real.recipes import RECIPES
 
@@ -79,9 +84,30 @@ class Refused(unittest.TestCase):
         self.assertEqual(refused.sites(executable(forward), {0x10014}), {0x10008: (92, 35)})
         self.assertEqual(refused.sites(executable(forward), {0x10018}), {0x10010: (100, 35)})
 
+    def test_a_breakpoint_of_the_guest_is_an_end(self) -> None:
+        guest = mock.Mock(**{"read_bytes.return_value": executable([LI_A7_STATX, refused.ECALL])})
+        ends = ["fault 7 1 00010004", "fault 7 1 00010100"]
+        with mock.patch.object(refused, "waiting_routines", return_value=set()):
+            probe = refused.Probe(mock.Mock(guest=guest), 1)
+        with mock.patch.object(probe, "end", side_effect=ends):
+            self.assertEqual(probe.numbers(()), ({291}, ends[1]))
+
+
+class Places(unittest.TestCase):
+    def test_the_library_is_where_the_variable_says(self) -> None:
+        for value, place in (("", building.MUSL / "library"), ("c", Path.cwd() / "c")):
+            with self.subTest(value), mock.patch.dict(os.environ, {"APROF_MUSL": value}):
+                self.assertEqual(building.library(), place)
+
+    def test_a_package_without_its_description(self) -> None:
+        with tempfile.TemporaryDirectory() as folder:
+            self.assertRaises(building.LeftOut, building.version, RECIPES[0], Path(folder))
+
 
 class Words(unittest.TestCase):
     def test_options(self) -> None:
+        options = command.options_of(["--program", sys.executable, "--no-host"])
+        self.assertEqual((options.program, options.with_host), (Path(sys.executable).resolve(), False))
         self.assertEqual(command.scales("10,1"), [1, 10])
         self.assertEqual([recipe.name for recipe in command.chosen(["tcc", "lz4 -9"])], ["lz4 -9", "tcc -E"])
         with self.assertRaises(SystemExit):

@@ -6,7 +6,7 @@ from collections.abc import Iterator
 
 import run
 import storms
-from guests import BASE, EXIT, HEADERS, Code, addi, branch, image, jal, number
+from guests import BASE, EXIT, HEADERS, Code, addi, branch, image, jal, jal_offset, number, signed
 
 JAL, BRANCH = 0x6F, 0x63
 SIZES = {
@@ -23,15 +23,10 @@ SIZES = {
 """The words of the guests whose host instructions are counted."""
 
 
-def signed(value: int, bits: int) -> int:
-    """A field of so many bits as a number with a sign."""
-    return value - (1 << bits) if value >> (bits - 1) else value
-
-
 def offset(word: int) -> int | None:
     """How many bytes behind itself a jump or a branch goes, or None for another instruction."""
     if word & 127 == JAL:
-        return signed(word >> 31 << 20 | (word >> 12 & 255) << 12 | (word >> 20 & 1) << 11 | (word >> 21 & 1023) << 1, 21)
+        return jal_offset(word)
     if word & 127 == BRANCH:
         return signed(word >> 31 << 12 | (word >> 7 & 1) << 11 | (word >> 25 & 63) << 5 | (word >> 8 & 15) << 1, 13)
     return None

@@ -22,6 +22,7 @@ class Children(unittest.TestCase):
     def test_status(self) -> None:
         self.assertEqual(host.run(["sh", "-c", "exit 3"]).status, 3)
         self.assertEqual(host.run(["sh", "-c", "kill -9 $$"]).status, -signal.SIGKILL)
+        self.assertEqual(host.run(["sleep", "60"], every=0.005, longest=0.05).status, -signal.SIGKILL)
 
     def test_seconds(self) -> None:
         ended = host.run(["sleep", "0.2"])
@@ -43,10 +44,13 @@ class Children(unittest.TestCase):
             self.assertEqual(Path(folder, "mask").read_text(), "0057\n")
 
     def test_what_callgrind_says(self) -> None:
-        said = mock.Mock(stderr=b"==7== Events    : Ir\n==7== Collected : 21964\n")
+        said = mock.Mock(returncode=0, stderr=b"==7== Events    : Ir\n==7== Collected : 21964\n")
         with mock.patch("subprocess.run", return_value=said):
             self.assertEqual(host.instructions(["aprof"]), 21964)
-        with mock.patch("subprocess.run", return_value=mock.Mock(stderr=b"no-such-program: command not found\n")):
+            said.returncode = 1
+            self.assertEqual(host.instructions(["lanes"], statuses=(0, 1)), 21964)
+            self.assertRaises(subprocess.CalledProcessError, host.instructions, ["aprof"])
+            said.stderr = b"no-such-program: command not found\n"
             self.assertRaises(host.NotCounted, host.instructions, ["no-such-program"])
 
 
@@ -56,13 +60,19 @@ class Words(unittest.TestCase):
         with self.assertRaises(argparse.ArgumentTypeError):
             host.program("no-such-program")
 
+    def test_positive(self) -> None:
+        self.assertEqual(host.positive("1"), 1)
+        self.assertRaises(argparse.ArgumentTypeError, host.positive, "0")
+
     def test_command_line(self) -> None:
         with tempfile.TemporaryDirectory() as made:
             folder = Path(made)
+            (folder / "report").touch()
             words = Bench(Path("aprof"), folder, host.CONTEXTS).words(b"guest", ["--stamps", "8"])
             self.assertEqual(words[:4], [Path("aprof"), "contexts", "--stamps", "8"])
             self.assertEqual(words[4:], ["--stdin", folder / "stdin", "-o", folder / "report", folder / "guest"])
             self.assertEqual((folder / "guest").read_bytes(), b"guest")
+            self.assertFalse((folder / "report").exists())
             self.assertEqual((folder / "stdin").stat().st_size, 1 << 20)
 
 

@@ -3,6 +3,7 @@ from __future__ import annotations
 
 import contextlib
 import io
+import os
 import random
 import unittest
 from pathlib import Path
@@ -59,6 +60,13 @@ class Gate(unittest.TestCase):
     def test_checker(self) -> None:
         self.assertTrue(gate.is_checker(["/kit/bin/rattle", "check", "--crate-name", "shadow"]))
         self.assertFalse(gate.is_checker(["/kit/bin/rattle", "--version"]) or gate.is_checker([""]))
+
+    def test_processes(self) -> None:
+        found = gate.fields(str(os.getpid()))
+        self.assertGreater(gate.seconds(found), 0)
+        self.assertGreater(int(found[gate.STARTED]), 0)
+        self.assertTrue(gate.is_below(str(os.getpid()), os.getppid()))
+        self.assertEqual(gate.fields("0"), [])
 
     def test_table(self) -> None:
         spent = {(Work("a", "proof"), "7"): 60.0, (Work("a", "proof"), "8"): 30.0, (Work("b", "edits"), "9"): 1.0}

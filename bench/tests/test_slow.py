@@ -1,10 +1,15 @@
 """The report that slow.py makes of a trace, on the examples of docs/DEFINITIONS.md."""
 from __future__ import annotations
 
+import contextlib
+import io
 import struct
+import sys
 import unittest
+from unittest import mock
 
 import slow
+from real import building
 from slow import CALL, END, FILL, LAST, MAGIC, NAME, READ, RETURN, START, STEP, WRITE
 
 Numbers = tuple[int, ...]
@@ -55,6 +60,13 @@ class Definitions(unittest.TestCase):
         """A word that the routine wrote first counts in neither size."""
         told = points((START, 1, 4), (STEP, 1), (WRITE, 1, 7, 1), (STEP, 1), (READ, 1, 7, 1), (END, 1))
         self.assertEqual(told, ["0 1 2 2 2 0 0 0 0"])
+
+    def test_where_nothing_is_compared_the_status_is_1(self) -> None:
+        left_out = mock.Mock(side_effect=building.LeftOut("no network"))
+        with (mock.patch.multiple(building, compiler=mock.Mock(), fetch=mock.Mock(), build=left_out),
+              contextlib.redirect_stdout(io.StringIO()) as out):
+            self.assertEqual(slow.main(["--program", sys.executable, "cJSON"]), 1)
+        self.assertEqual(out.getvalue(), "cJSON: left out: no network\n")
 
     def test_no_trace(self) -> None:
         with self.assertRaises(ValueError):

@@ -1,9 +1,7 @@
 #!/usr/bin/env bash
 # Profiles the guest, and compares the report with report.txt, and what `show` makes of it.
 set -eu
-cd "$(dirname "$0")"
-PATH=../..:$PATH  # a clone has aprof there
-mkdir -p out
+. "$(dirname "$0")/../begin.sh"
 aprof run -o out/report.txt bubble
 diff report.txt out/report.txt
 aprof show out/report.txt | diff show.txt -

@@ -2,9 +2,7 @@
 # Profiles the guest on the texts of words, and compares its output, its report, and what `show` makes of it, where a program
 # is there that writes names of C++ as they are in the source.
 set -eu
-cd "$(dirname "$0")"
-PATH=../..:$PATH  # a clone has aprof there
-mkdir -p out
+. "$(dirname "$0")/../begin.sh"
 aprof run -o out/report.txt index ../words/text-{60,120,240,480,960}.txt > out/output.txt
 diff output.txt out/output.txt
 diff report.txt out/report.txt

@@ -2,9 +2,7 @@
 # Counts the guest's misses of a cache of 4 KiB and of one of 16 KiB, and compares the reports with small.txt and large.txt,
 # and what `show` makes of the first.
 set -eu
-cd "$(dirname "$0")"
-PATH=../..:$PATH  # a clone has aprof there
-mkdir -p out
+. "$(dirname "$0")/../begin.sh"
 aprof cache --sets 16 --ways 4 --line 64 -o out/small.txt matrix
 diff small.txt out/small.txt
 aprof cache --sets 64 --ways 4 --line 64 -o out/large.txt matrix

@@ -6,7 +6,7 @@ here=$(dirname "$(readlink -f "$0")")
 . "$here/debian.sh"
 library=$(library_of "$here")
 need_tools setup-c++.sh clang++ ld.lld llvm-ar apt-get xz
-if [ ! -e "$library/lib/libc.a" ]; then
+if [ ! -e "$library/lib/libgcc.a" ] || [ ! -e "$library/lib/libc.a" ]; then
   echo "setup-c++.sh: there is no C library yet; this makes it: $here/setup.sh" >&2
   exit 1
 fi

@@ -6,6 +6,10 @@ set -eu
 here=$(dirname "$(readlink -f "$0")")
 . "$here/debian.sh"
 library=$(library_of "$here")
+if [ ! -e "$library/lib/libgcc.a" ] && { [ -e "$library/lib" ] || [ -e "$library/include" ]; }; then
+  echo "setup.sh: $library has a lib or an include that setup.sh did not make: name another folder by APROF_MUSL" >&2
+  exit 1
+fi
 need_tools setup.sh clang ld.lld llvm-ar llvm-ranlib llvm-strip make apt-get dpkg-deb
 
 # Debian 13 has musl 1.2.5, the first with this processor.
@@ -18,14 +22,19 @@ unset APT_CONFIG
 mkdir source compiler
 tar xf musl_*.orig.tar.gz -C source --strip-components=1
 dpkg-deb -x gcc-riscv64-unknown-elf_*.deb compiler
-rm -rf "$library/lib" "$library/include"
-mkdir -p "$library/lib"
-cp compiler/usr/lib/gcc/riscv64-unknown-elf/*/rv32im/ilp32/libgcc.a "$library/lib"
+cp compiler/usr/lib/gcc/riscv64-unknown-elf/*/rv32im/ilp32/libgcc.a .
 
 cd source
 CC="clang --target=riscv32-linux-musl -march=rv32ima -mabi=ilp32 -mno-relax -fuse-ld=lld" \
-  CFLAGS="-O2 -fno-pie" AR=llvm-ar RANLIB=llvm-ranlib LIBCC=$library/lib/libgcc.a \
-  ./configure --target=riscv32 --prefix="$library" --disable-shared > "$work/configure.log"
+  CFLAGS="-O2 -fno-pie" AR=llvm-ar RANLIB=llvm-ranlib LIBCC=$work/libgcc.a \
+  ./configure --target=riscv32 --prefix="$work/made" --disable-shared > "$work/configure.log"
 make -s -j "${JOBS:-$(nproc)}" install
-llvm-strip --strip-debug "$library"/lib/*.a
+cd ..
+llvm-strip --strip-debug libgcc.a made/lib/*.a
+
+# An older library goes only now that the new one is whole. libgcc.a comes first: by it another set-up knows the folder.
+rm -rf "$library/lib" "$library/include"
+mkdir -p "$library/lib"
+cp libgcc.a "$library/lib"
+cp -r made/lib made/include "$library"
 echo "setup.sh: made $library" >&2

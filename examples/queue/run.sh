@@ -1,9 +1,7 @@
 #!/usr/bin/env bash
 # Profiles the guest, and compares its output, its report, and what `show` makes of it.
 set -eu
-cd "$(dirname "$0")"
-PATH=../..:$PATH  # a clone has aprof there
-mkdir -p out
+. "$(dirname "$0")/../begin.sh"
 aprof run -o out/report.txt queue > out/output.txt
 diff output.txt out/output.txt
 diff report.txt out/report.txt

@@ -20,11 +20,21 @@ class Names(unittest.TestCase):
     def test_a_file_that_no_crate_has_is_found(self) -> None:
         self.assertEqual(list(check.missing_files("specs/Outcome.antt, `src/nowhere.rt`")), ["src/nowhere.rt"])
 
+    def test_what_is_built_or_fetched_is_no_source(self) -> None:
+        for name in (".git", "build", "examples/musl/library", "crates/aprof/out", "report-8", "scripts/__pycache__"):
+            self.assertFalse(check.is_source(check.TOP / name), name)
+        for name in ("build.sh", "scripts/build", "examples/musl/cc", "docs/report"):
+            self.assertTrue(check.is_source(check.TOP / name), name)
+
 
 class Clauses(unittest.TestCase):
     def test_a_clause_is_of_its_crate(self) -> None:
         table = "| The headline | aprof_top | `aprof` | `answered` |\n| | stamps | `Stamp` | `answered`; one |"
-        self.assertEqual(list(check.unknown_clauses(table)), ["stamps: answered"])
+        self.assertEqual(list(check.unknown_clauses(table)), ["no clause stamps: answered"])
+
+    def test_a_crate_that_is_gone_is_found(self) -> None:
+        table = "| Promise | Crate | Public function | Clauses |\n| Safe | all | all | none |\n| One | gone | `go` | `went` |"
+        self.assertEqual(list(check.unknown_clauses(table)), ["no crate gone"])
 
 
 class Counts(unittest.TestCase):

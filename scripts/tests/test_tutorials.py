@@ -3,10 +3,15 @@ from __future__ import annotations
 
 import contextlib
 import io
+import os
+import subprocess
 import tempfile
+import time
 import unittest
 from pathlib import Path
+from unittest import mock
 
+import check_tutorials
 from check_tutorials import BadPage, Command, blocks_of, check, commands_folder, fits
 
 PAGE = """# A page
@@ -75,6 +80,16 @@ class Pages(unittest.TestCase):
             self.assertIn(what, said)
         is_right, _, page = checked(PAGE.replace("one\none", "one\ntwo\nthree"), fresh=True)
         self.assertEqual((is_right, page), (False, PAGE))
+
+    @mock.patch.object(check_tutorials, "LONGEST", 0.1)
+    def test_what_takes_too_long_ends_with_all_that_it_started(self) -> None:
+        late = "(sleep 0.3; touch late) & wait"
+        self.assertIn("line 2: more than 0.1 seconds", checked(f"```console\n$ {late}\n```\n")[1])
+        with tempfile.TemporaryDirectory() as folder:
+            with self.assertRaises(subprocess.TimeoutExpired):
+                check_tutorials.run_in(Path(folder), late, dict(os.environ))
+            time.sleep(0.4)
+            self.assertEqual(os.listdir(folder), [])
 
 
 if __name__ == "__main__":
