@@ -83,6 +83,16 @@ class Causes(PageCase):
         self.browser.click("#library")
         self.assertEqual(self.ask(HIDDEN.format("#unlisted")), True)
 
+    def test_what_is_marked_for_its_calls_may_be_cheap(self) -> None:
+        self.open(profile_of(*map(through_a_list, SIZES), Call("leaf", 9, 10**8)))
+        self.assertEqual(self.ask(text_of("#unlisted")), "Not listed: 1 marked: look_up ∗×2.0. To see them, tick “below 1 %”.")
+        self.browser.press("/")
+        self.browser.type("leaf")
+        told = "Not listed: 2 marked: look_up ∗×2.0, parse ×3.9. To see them, clear the filter"
+        self.assertEqual(self.ask(text_of("#unlisted")), f"{told} and tick “below 1 %”.")
+        self.browser.click("#cheap")
+        self.assertEqual(self.ask(text_of("#unlisted")), f"{told}.")
+
     def test_callees(self) -> None:
         """Dearest first, direct recursion left out, and of a routine with many the first ones."""
         names = [name for name in ADDRESSES if name not in ("main", "parse")]

@@ -114,17 +114,22 @@ function tellListed(word) {
   byId("unlisted").textContent = left.length ? unlistedText(left, word) : "";
 }
 
-// the marked routines that are not listed, the first of them by name, and how to see them
+// the marked routines that are not listed, the first of them by name
 function unlistedText(left, word) {
   const kinds = [[left.filter((r) => r.library), "of the C library"], [left.filter((r) => !r.named), "without a name"]]
     .filter(([some]) => some.length).map(([some, what]) => `${count(some.length)} ${what}`);
   const first = [...left.filter((r) => r.many), ...left.filter((r) => !r.many)];
   const names = first.slice(0, 3).map((r) => `${r.name} ${r.many ? "∗" : ""}${times(r.growth)}`).join(", ");
-  const way = word ? "clear the filter" : "";
-  const ticks = left.some((r) => r.library) && !byId("library").checked ? "tick “C library”" : "";
   const more = left.length > 3 ? ` and ${count(left.length - 3)} more` : "";
   return `Not listed: ${count(left.length)} marked${kinds.length ? ` (${kinds.join(", ")})` : ""}: ${names}${more}. To see them, ${
-    [way, ticks].filter(Boolean).join(" and ")}.`;
+    wayToSee(left, word)}.`;
+}
+
+// what is to be cleared and ticked so that routines are listed
+function wayToSee(left, word) {
+  const boxes = [["cheap", "“below 1 %”"], ["library", "“C library”"]]
+    .filter(([box]) => !byId(box).checked && left.some((r) => r[box])).map(([, name]) => name);
+  return [word ? "clear the filter" : "", boxes.length ? `tick ${boxes.join(" and ")}` : ""].filter(Boolean).join(" and ");
 }
 
 // first the greatest, then the least, then again what to look at first
