@@ -48,7 +48,8 @@ def cause_sentence(row: Row, cause: Cause) -> str:
     where = f"{percent(cause.part)} of its cost{so_far} is in {cause.routine.label} with its callees"
     way = way_text(cause)
     how = f",{'' if cause.is_direct else ' indirectly'}{way}" if way else ""
-    return f"{where}, called {plural(cause.calls, 'time')}{how}" + (f"; {row.reason.text}" if row.reason else "")
+    calls = f"called {plural(cause.calls, 'time')}" if cause.calls else "still open"
+    return f"{where}, {calls}{how}" + (f"; {row.reason.text}" if row.reason else "")
 
 
 def growth_lines(row: Row, growth: Growth) -> list[str]:

@@ -8,7 +8,7 @@ from aprof_show.model import Profile
 from tests import profiles
 from tests.page_case import PageCase, text_of
 from tests.samples import ADDRESSES, Call, Run, points_of, report_of
-from tests.test_causes import SIZES, recursive, through_a_list
+from tests.test_causes import SIZES, never_returned, recursive, through_a_list
 from tests.test_growth import POSTINGS, SPREAD
 from tests.test_reasons import linear, squares, through_one
 
@@ -31,6 +31,10 @@ class Causes(PageCase):
         self.browser.click("#callees tbody a")
         self.assertEqual(self.shown(), "compare")
         self.assertEqual([self.ask(HIDDEN.format(place)) for place in ("#cause", "#callees")], [True, True])
+
+    def test_a_cause_that_never_returned_is_open(self) -> None:
+        self.open(never_returned(), f"#routine={ADDRESSES['main']:x}")
+        self.assertEqual(self.ask(text_of("#cause")), "100.0 % of its cost so far is in parse with its callees, still open.")
 
     def test_the_culprit_is_marked(self) -> None:
         """In the list of all routines and in that of what is called, and an indirect way is told."""
