@@ -14,6 +14,7 @@ from tests.test_reasons import linear, squares, through_one
 
 CALLEES = "[...document.querySelectorAll('#callees tbody tr')].map((row) => [...row.cells].map((cell) => cell.textContent))"
 HIDDEN = "document.querySelector('{}').hidden"
+FOCUSED = "document.activeElement.id || document.activeElement.tagName"
 
 
 def profile_of(*calls: Call) -> Profile:
@@ -31,6 +32,19 @@ class Causes(PageCase):
         self.browser.click("#callees tbody a")
         self.assertEqual(self.shown(), "compare")
         self.assertEqual([self.ask(HIDDEN.format(place)) for place in ("#cause", "#callees")], [True, True])
+
+    def test_the_focus_follows_to_the_detail(self) -> None:
+        """From a link or a row that goes with the routine before, and not from one that stays."""
+        cases = (("parse", "#cause a", "look_up", "detail"), ("parse", "#callees tbody a", "look_up", "detail"),
+                 ("look_up", "#callees tbody a", "compare", "detail"), ("parse", "#tree tbody tr:nth-child(2)", "main", "detail"),
+                 ("main", "#routines tbody tr:first-child a", "parse", "A"))
+        for name, place, wanted, focused in cases:
+            with self.subTest(name=name, place=place):
+                self.open(profile_of(*map(through_a_list, SIZES)), f"#routine={name}")
+                self.assertEqual(self.ask(FOCUSED), "BODY")
+                self.ask(f"document.querySelector('{place}').focus()")
+                self.browser.press("Enter")
+                self.assertEqual((self.shown(), self.ask(FOCUSED)), (wanted, focused))
 
     def test_a_cause_that_never_returned_is_open(self) -> None:
         self.open(never_returned(), f"#routine={ADDRESSES['main']:x}")

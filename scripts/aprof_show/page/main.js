@@ -44,8 +44,11 @@ function follow() {
   const routine = wanted || table.rows[0] || routines[0];
   byId("detail").hidden = !routine;
   if (!routine || routine === shown) return;
+  const focused = document.activeElement;
   showRoutine(routine);
   markRow();
+  // a link or a row that told of the routine before is gone or hidden, and the focus would be nowhere
+  if (!focused.getClientRects().length) byId("detail").focus({ preventScroll: true });
 }
 
 function chooseRow(event) {
