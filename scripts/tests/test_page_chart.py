@@ -8,6 +8,7 @@ import unittest
 from aprof_show.model import Point
 from tests import profiles
 from tests.page_case import PageCase, TIP, text_of
+from tests.samples import points_of
 
 DRAW_LIMIT = 10.0
 """Seconds in which the charts of 100,000 points are drawn, on a machine that is fully loaded with other work (3.6 were seen)."""
@@ -63,6 +64,21 @@ class Charts(PageCase):
         self.browser.click("#scale input[value=log] + span")
         self.browser.move(5, 5)
         self.assertEqual(self.ask(CANVAS), log)
+
+    def test_what_has_no_place_on_logarithmic_axes_does_not_stretch_them(self) -> None:
+        made = profiles.Made()
+        root = made.context("main", None, profiles.points_of([9000], lambda n: 1e10, calls=1))
+        empty = Point(0, 5000, 10**6, 10**6, 5 * 10**9, None)
+        made.context("scan", root, [empty, *points_of((n, 5.0 * n) for n in profiles.over(4, 900, 8))])
+        self.open(made.profile("report"), "#routine=scan")
+        for kind, costs, calls in (("log", 10**4, 9), ("linear", 10**7, 10**4)):
+            with self.subTest(kind):
+                self.browser.click(f"#scale input[value={kind}] + span")
+                for chart, below in (("cost", costs), ("calls", calls)):
+                    greatest = self.ask(f"Chart.getChart('{chart}').scales.y.max")
+                    assert isinstance(greatest, float | int)
+                    self.assertLess(greatest, below)
+                    self.assertGreater(greatest, below / 10)
 
     def test_a_click_on_a_point_moves_the_guides(self) -> None:
         self.open_sample()
