@@ -80,6 +80,21 @@ class Charts(PageCase):
                     self.assertLess(greatest, below)
                     self.assertGreater(greatest, below / 10)
 
+    def test_of_a_column_of_pixels_the_cheapest_and_the_middle_point_are_drawn_too(self) -> None:
+        """Though each of them is of one call, whose least and greatest cost are one."""
+        for amount, all_three in ((9000, True), (9, False)):
+            with self.subTest(amount):
+                made = profiles.Made()
+                root = made.context("main", None, profiles.points_of([9000], lambda n: 1e10, calls=1))
+                made.context("scan", root, profiles.points_of(range(1, amount + 1), lambda n: 90 * n, calls=1, noise=0.5))
+                self.open(made.profile("report"), "#routine=scan")
+                self.browser.click("#scale input[value=linear] + span")
+                drawn = self.ask("Chart.getChart('cost').data.datasets.slice(-3).map(({data}) => data.length)")
+                assert isinstance(drawn, list)
+                least, mean, most = drawn
+                self.assertGreater(most, amount / 30)
+                self.assertEqual([one > most / 2 for one in (least, mean)], [all_three, all_three], drawn)
+
     def test_a_click_on_a_point_moves_the_guides(self) -> None:
         self.open_sample()
         before, note = self.ask(CANVAS), self.ask(text_of("#guides-note"))

@@ -85,11 +85,13 @@ function series(points, drawn, look) {
     mean: { pointStyle: "line", borderColor: look.ink, borderWidth: 1.5, radius: radius - 0.2 },
     most: { pointStyle: "circle", borderColor: look.accent, backgroundColor: look.accent, borderWidth: 0, radius },
   };
-  // where all calls cost the same the three are one point
+  // where all calls cost the same the three are one point, if it is the same one that a column of pixels has of each
   const top = SERIES.findLast(({ key }) => !figure.hidden.has(key))?.key;
+  const differs = (i, k) => points.least[i] < points.most[i] || i !== drawn[top]?.[k];
   return SERIES.map(({ key }) => ({
     type: "scatter",
-    data: drawn[key].filter((i) => key === top || points.least[i] < points.most[i]).map((i) => ({ x: points.size[i], y: Math.max(points[key][i], figure.log ? 0.5 : 0) })),
+    data: drawn[key].filter((i, k) => key === top || differs(i, k))
+      .map((i) => ({ x: points.size[i], y: Math.max(points[key][i], figure.log ? 0.5 : 0) })),
     hidden: figure.hidden.has(key), ...styles[key],
   }));
 }
