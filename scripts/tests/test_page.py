@@ -89,6 +89,9 @@ class Pages(PageCase):
             self.browser.press(key)
         self.assertEqual(self.shown(), "build_index")
         self.assertEqual(self.ask("document.querySelectorAll('#routines tr[aria-current]').length"), 1)
+        self.ask("document.querySelector('#routines th.name button').focus()")
+        self.browser.press("ArrowDown")
+        self.assertEqual(self.ask("document.activeElement.closest('tbody tr').sectionRowIndex"), 0)
         self.browser.open(path, "#routine=square_block")
         self.assertEqual(self.shown(), "square_block")
 

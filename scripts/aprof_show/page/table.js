@@ -166,7 +166,7 @@ function markRow() {
 }
 
 function moveInTable(event) {
-  const row = event.target.closest("tr");
+  const row = event.target.closest("tbody tr");
   const body = byId("routines").tBodies[0];
   const now = row ? row.sectionRowIndex : -1;
   const to = { ArrowDown: now + 1, ArrowUp: now - 1, Home: 0, End: table.rows.length - 1, PageDown: now + 10, PageUp: now - 10 }[event.key];
