@@ -154,6 +154,14 @@ class Pages(PageCase):
         self.assertEqual(self.ask("getComputedStyle(document.querySelector('#tools')).display"), "none")
         self.assertGreater(len(self.browser.call("Page.printToPDF")["data"]), 20000)
 
+    def test_it_prints_all_routines(self) -> None:
+        self.open(profiles.many(400))
+        self.browser.click("#cheap")
+        rows = "document.querySelectorAll('#routines tbody tr').length"
+        self.assertLess(self.ask(rows), 401)  # type: ignore[misc]
+        self.browser.call("Page.printToPDF")
+        self.assertEqual(self.ask(rows), 401)
+
 
 def contrast(one: str, other: str) -> float:
     """The ratio of WCAG between two colours."""

@@ -81,6 +81,7 @@ function watch() {
     byId("filter").focus();
   });
   addEventListener("hashchange", follow);
+  addEventListener("beforeprint", () => drawMore(table.rows.length));
   for (const media of ["(prefers-color-scheme: dark)", "print"]) matchMedia(media).addEventListener("change", redraw);
   let width = byId("plots").clientWidth;
   new ResizeObserver(() => {
