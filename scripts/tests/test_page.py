@@ -64,6 +64,9 @@ class Pages(PageCase):
 
     def test_routines_are_filtered_by_name(self) -> None:
         self.open(profiles.sample())
+        for held in ("ctrlKey", "altKey", "metaKey"):
+            self.ask(f"document.body.dispatchEvent(new KeyboardEvent('keydown', {{key: '/', {held}: true, bubbles: true}}))")
+            self.assertEqual(self.ask("document.activeElement.tagName"), "BODY", held)
         self.browser.press("/")
         self.browser.type("STR")
         self.assertEqual(self.ask(NAMES), ["strlen"])
@@ -146,6 +149,11 @@ class Pages(PageCase):
         self.browser.press("End")
         self.assertEqual(self.ask("document.querySelectorAll('#routines tbody tr').length"), 5001)
         self.assertEqual(self.ask("document.activeElement.closest('tr').rowIndex"), 5001)
+        tops = self.ask("[...Array(60)].map(() => { document.activeElement.dispatchEvent(new KeyboardEvent('keydown',"
+                        " {key: 'ArrowUp', bubbles: true})); return document.activeElement.getBoundingClientRect().top; })")
+        under = self.ask("document.querySelector('#routines th').getBoundingClientRect().bottom")
+        assert isinstance(tops, list) and isinstance(under, float | int)
+        self.assertGreater(min(tops), under)
 
     def test_it_prints_in_light_colours(self) -> None:
         self.browser.resize(1280, 1200, dark=True)

@@ -76,7 +76,7 @@ function watch() {
   });
   byId("scale").addEventListener("change", (event) => setAxes(event.target.value === "log"));
   document.addEventListener("keydown", (event) => {
-    if (event.key !== "/" || event.target.matches("input[type=search]")) return;
+    if (event.key !== "/" || event.ctrlKey || event.altKey || event.metaKey || event.target.matches("input[type=search]")) return;
     event.preventDefault();
     byId("filter").focus();
   });
