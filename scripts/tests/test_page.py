@@ -37,6 +37,11 @@ class Pages(PageCase):
         self.assertIn("the budget of instructions was spent", str(self.ask(text_of("#summary"))))
         self.assertIn("_start › main › spin", str(self.ask(text_of("#open"))))
         self.assertIn("out/a", str(self.ask(text_of("#runs tbody"))))
+        name = "f(std::vector<std::vector<int> > const&)"
+        made = profiles.Made()
+        made.context(name, made.context("main", None, []), [])
+        self.open(made.profile("report", end="budget", still_open=2))
+        self.assertEqual(self.ask(text_of("#open")), f"Still open at the end: main › {name}")
 
     def test_the_first_routine_is_shown_with_what_is_known_of_it(self) -> None:
         self.open(profiles.sample())

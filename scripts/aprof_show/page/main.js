@@ -16,7 +16,7 @@ function tellHead() {
   if (!routines.length) facts.push("no call has returned");
   byId("summary").textContent = facts.filter(Boolean).join(" · ");
   byId("open").hidden = !chains.length;
-  const told = chains.slice(0, 3).map((chain) => `Still open at the end: ${chain.replaceAll(" > ", " › ")}`);
+  const told = chains.slice(0, 3).map((chain) => `Still open at the end: ${chain.join(" › ")}`);
   if (chains.length > 3) told.push(`and ${count(chains.length - 3)} more`);
   byId("open").textContent = told.join("\n");
 }
