@@ -60,6 +60,19 @@ class Causes(PageCase):
         self.assertEqual(self.ask(marked), ["look_up"])
         self.assertIn("∗×2.0", str(self.ask(text_of("#routines .many b"))))
 
+    def test_a_bound_stands_alone(self) -> None:
+        """Of an open routine, however small its part is, and not of one that is known."""
+        made = profiles.Made()
+        root = made.context("main", None, [])
+        made.context("load", root, profiles.points_of([9000], lambda n: 1e9, calls=1))
+        made.context("leaf", made.context("spin", root, []), profiles.points_of([4], lambda n: 90, calls=1))
+        for name, part in (("main", "≥100.0 %"), ("spin", "≥0.0 %"), ("leaf", "<0.1 %")):
+            with self.subTest(name):
+                self.open(made.profile("report", end="budget", still_open=2), f"#routine={name}")
+                self.assertEqual(self.ask(text_of("#facts > div:nth-child(2) dd")), part)
+        shares = "[...document.querySelectorAll('#routines tbody tr')].map((row) => row.querySelector('.share').textContent)"
+        self.assertIn("≥0.0", self.ask(shares))  # type: ignore[arg-type]
+
     def test_the_key_has_what_the_page_uses(self) -> None:
         """Each badge of the listed routines, and nothing else."""
         superlinear, uncertain = "superlinear: faster", "uncertain: few sizes"

@@ -27,7 +27,7 @@ const spreadOf = (points) => points.most.reduce((spread, most, i) => Math.max(sp
 
 function factsOf(routine) {
   const facts = [["growth", times(routine.growth), routine.steep ? "steep" : ""],
-    ["with its callees", `${routine.bound}${percent(routine.share)} %`, "", "part of all instructions, with its callees"]];
+    ["with its callees", `${percent(routine.share, routine.bound)} %`, "", "part of all instructions, with its callees"]];
   if (routine.self !== null) facts.push(["its own", `${percent(routine.self)} %`, "", "its own part of all instructions, without its callees"]);
   facts.push(["calls", count(routine.calls)]);
   if (routine.sizes) facts.push([plural(routine.points[0].length, "size"), sizesText(routine)], ["greatest cost", short(routine.greatest)]);

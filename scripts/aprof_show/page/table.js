@@ -51,7 +51,7 @@ function growthCell(routine) {
 }
 
 function partCell(part, bound = "") {
-  const cell = make("span", "part", `${bound}${percent(part)}`);
+  const cell = make("span", "part", percent(part, bound));
   if (bound) cell.title = BOUNDS[bound];
   if (part !== null) cell.style.setProperty("--width", `${Math.min(100, 100 * part).toFixed(1)}%`);
   return cell;
