@@ -65,6 +65,18 @@ class Charts(PageCase):
         self.browser.move(5, 5)
         self.assertEqual(self.ask(CANVAS), log)
 
+    def test_calls_that_read_nothing_have_linear_axes_alone(self) -> None:
+        """And the next routine has logarithmic ones again."""
+        made = profiles.Made()
+        root = made.context("main", None, profiles.points_of([9000], lambda n: 1e9, calls=1))
+        made.context("idle", root, [Point(0, 50, 90, 90, 4500, None)])
+        self.open(made.profile("report"), "#routine=idle")
+        scale = "[...document.querySelectorAll('#scale input')].map((input) => [input.value, input.checked, input.disabled])"
+        self.assertEqual(self.ask(scale), [["log", False, True], ["linear", True, False]])
+        self.browser.click("#tree tbody tr:nth-child(2) .label")
+        self.assertEqual(self.shown(), "main")
+        self.assertEqual(self.ask(scale), [["log", True, False], ["linear", False, False]])
+
     def test_what_has_no_place_on_logarithmic_axes_does_not_stretch_them(self) -> None:
         made = profiles.Made()
         root = made.context("main", None, profiles.points_of([9000], lambda n: 1e10, calls=1))

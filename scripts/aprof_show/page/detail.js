@@ -67,8 +67,12 @@ function tellParts(points) {
 function setAxes(log) {
   wantsLog = log;
   const { points } = figure;
-  figure.log = log && points !== null && points.length > 0 && points.size[points.length - 1] > 0;
-  for (const input of byId("scale").querySelectorAll("input")) input.checked = input.value === (log ? "log" : "linear");
+  const hasLog = points !== null && points.length > 0 && points.size[points.length - 1] > 0;
+  figure.log = log && hasLog;
+  for (const input of byId("scale").querySelectorAll("input")) {
+    input.checked = input.value === (figure.log ? "log" : "linear");
+    input.disabled = input.value === "log" && !hasLog;
+  }
   drawCharts();
   mark(null);
   if (points && points.length) tellGuides();
