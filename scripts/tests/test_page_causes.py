@@ -177,6 +177,17 @@ class Causes(PageCase):
         self.open(profile, "#routine=nosuch")
         self.assertEqual(self.ask(text_of("#unknown")), "There is no routine “nosuch” in this profile.")
 
+    def test_the_way_back_is_to_the_first_routine(self) -> None:
+        """Whatever the order and the filter are by then."""
+        self.open(profiles.sample())
+        self.browser.click("#routines th.name button")
+        self.browser.press("/")
+        self.browser.type("load")
+        self.browser.press("Enter")
+        self.assertEqual(self.shown(), "load")
+        self.ask("history.back()")
+        self.browser.wait(text_of("#name") + " === 'add_posting'")
+
     def test_no_scrolling_aside(self) -> None:
         self.open(profiles.sample())
         self.assertEqual(self.ask("document.querySelector('#rows').scrollWidth - document.querySelector('#rows').clientWidth"), 0)

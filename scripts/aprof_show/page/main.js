@@ -32,6 +32,7 @@ function tellCounts() {
   if (!routines.some((r) => !r.cheap)) byId("cheap").checked = true;
 }
 
+// shows the routine that the address names, or else that which the page opens with
 function follow() {
   const found = /^#routine=(.*)$/.exec(location.hash);
   let word = null;
@@ -41,7 +42,7 @@ function follow() {
   const wanted = word === null ? undefined : routineOf(word);
   byId("unknown").hidden = word === null || Boolean(wanted);
   byId("unknown").textContent = `There is no routine “${word}” in this profile.`;
-  const routine = wanted || table.rows[0] || routines[0];
+  const routine = wanted || firstListed;
   byId("detail").hidden = !routine;
   if (!routine || routine === shown) return;
   const focused = document.activeElement;
@@ -100,6 +101,7 @@ watchPointer();
 tellHead();
 tellCounts();
 drawTable();
+const firstListed = table.rows[0] || routines[0];
 watch();
 follow();
 document.documentElement.dataset.ready = "true";
