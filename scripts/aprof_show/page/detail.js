@@ -7,12 +7,12 @@ function verdictOf(routine) {
   if (!routine.sizes) return "All its calls were still open at the end, so it has no points, and what they cost in the end is not known.";
   if (routine.growth === null) {
     const sizes = routine.sizes[0] === routine.sizes[1] ? "one size" : "one size other than 0";
-    return `Its calls have ${sizes}, which says nothing of growth: give the run several inputs, or show several reports at once.`;
+    return `Its calls have ${sizes}, which says nothing about growth: give the run several inputs, or show several reports at once.`;
   }
   const bent = routine.bent === null ? ""
     : ` Costs at one size differ, so that is of the mean; the greatest cost grows ${times(routine.bent)}.`;
   const weak = routine.weak ? ` That is uncertain: ${routine.weak}.` : "";
-  return `Where its input doubles, its ${bent ? "mean" : "greatest"} cost grows ${times(routine.growth)}${slopeOf(routine)}.${bent}${weak}`;
+  return `When its input doubles, its ${bent ? "mean" : "greatest"} cost grows ${times(routine.growth)}${slopeOf(routine)}.${bent}${weak}`;
 }
 
 // how it goes on at the largest sizes, and what that is

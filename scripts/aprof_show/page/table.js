@@ -34,7 +34,7 @@ function picture(routine) {
 function growthText(growth) {
   if (growth !== null && growth !== undefined) return document.createTextNode(times(growth));
   const dash = make("span", "faint", MINUS);
-  dash.title = growth === null ? "one size of input: nothing to tell of growth" : "not known for the calls by this way";
+  dash.title = growth === null ? "only one input size, so its growth is unknown" : "not known for calls along this path";
   return dash;
 }
 
@@ -145,7 +145,7 @@ function makeHead() {
   for (const column of COLUMNS) {
     const button = make("button", "", column.name);
     button.type = "button";
-    button.title = `${column.about ? `${column.about}; ` : ""}a third click brings back what to look at first`;
+    button.title = `${column.about ? `${column.about}; ` : ""}a third click restores the default order`;
     button.addEventListener("click", () => sortBy(column));
     const head = make("th", `${column.key}${column.text ? "" : " number"}`, button);
     head.scope = "col";
