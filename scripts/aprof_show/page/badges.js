@@ -7,7 +7,7 @@ const BADGES = [
   { has: (r) => r.steep && !r.weak, word: "superlinear", about: "superlinear: faster than n log n, at least at the largest sizes", put: lookOf("steep") },
   { has: (r) => r.steep && r.weak, word: "superlinear, uncertain", about: "superlinear, but uncertain: few sizes, sizes within a factor of 4, or less steep at the end",
     put: (cell) => cell.classList.add("steep", "doubt") },
-  { has: (r) => !r.steep && r.weak, word: "uncertain", about: "uncertain: few sizes, sizes below 16, within a factor of 4, or less steep at the end", put: lookOf("doubt") },
+  { has: (r) => !r.steep && r.weak, word: "uncertain", about: `uncertain: few sizes, sizes below ${profile.leastLargest}, within a factor of 4, or less steep at the end`, put: lookOf("doubt") },
   { has: (r) => r.many, word: "many calls", about: "cheap by itself, but called so often that its caller is superlinear",
     put: (cell, number) => { cell.classList.add("many"); number.prepend("∗"); } },
   { has: (r) => r.rising !== null, word: "rising", about: "rises from size to size: steeper than this at larger ones, so watch it",

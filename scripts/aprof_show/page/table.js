@@ -1,6 +1,6 @@
 // The table of the routines.
 const CHUNK = 150;
-const table = { key: null, down: true, rows: [], drawn: 0, links: new Map() };
+const table = { key: null, down: true, rows: [], drawn: 0 };
 
 const sizesText = (routine) => {
   if (!routine.sizes) return MINUS;
