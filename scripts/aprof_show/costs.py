@@ -138,7 +138,12 @@ def open_ends(roots: Sequence[Context], costs: Mapping[Context, Cost]) -> list[C
 
 
 def chain_text(context: Context) -> str:
-    """`_start > main > spin`; direct recursions are counted, and a long chain is cut in the middle."""
+    """`_start > main > spin`."""
+    return " > ".join(chain_texts(context))
+
+
+def chain_texts(context: Context) -> list[str]:
+    """The routines from the outermost call down; direct recursions are counted, and a long chain is cut in the middle."""
     links: list[tuple[str, int]] = []
     for link in chain_of(context):
         label = link.routine.label
@@ -149,4 +154,4 @@ def chain_text(context: Context) -> str:
     texts = [label if times == 1 else f"{label} (x{times})" for label, times in links]
     if len(texts) > 14:
         texts[6:-6] = [f"... {len(texts) - 12} more ..."]
-    return " > ".join(texts)
+    return texts

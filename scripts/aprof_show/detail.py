@@ -35,8 +35,8 @@ def detail(row: Row, room: int, place: str | None = None) -> list[str]:
         lines.append("`aprof contexts` in place of `aprof run` stores where that comes from")
     if not routine.points:
         return [*lines, "no call of it had returned at the end"]
-    sizes = "one size" if len(routine.points) == 1 else "one size other than 0"
-    nothing = f"{sizes}: nothing to tell of growth; `show` joins reports of several inputs"
+    other = "" if len(routine.points) == 1 else " other than 0"
+    nothing = f"only one input size{other}, so its growth is unknown; `show` joins reports of several inputs"
     told = growth_lines(row, row.growth) if row.growth else [nothing]
     lines += [part for line in told for part in wrapped(line, room)]
     return lines + table(columns_of(routine.points), room)
@@ -48,7 +48,8 @@ def cause_sentence(row: Row, cause: Cause) -> str:
     where = f"{percent(cause.part)} of its cost{so_far} is in {cause.routine.label} with its callees"
     way = way_text(cause)
     how = f",{'' if cause.is_direct else ' indirectly'}{way}" if way else ""
-    return f"{where}, called {plural(cause.calls, 'time')}{how}" + (f"; {row.reason.text}" if row.reason else "")
+    calls = f"called {plural(cause.calls, 'time')}" if cause.calls else "still open"
+    return f"{where}, {calls}{how}" + (f"; {row.reason.text}" if row.reason else "")
 
 
 def growth_lines(row: Row, growth: Growth) -> list[str]:

@@ -46,6 +46,13 @@ def mutual(n: int) -> Call:
     return Call("parse", n, 1, [Call("spin", n, n, [Call("parse", n // 2, 1, [Call("leaf", n, n * n)])])])
 
 
+def never_returned() -> Profile:
+    """What `main` spends its cost in returned in another thread alone."""
+    main = Call("main", 9, 1, [Call("parse", 9, 1, [Call("leaf", 2, 1000)], open=True)])
+    run = Run([Call("spin", 9, 1, [Call("parse", n, n) for n in SIZES]), main], ADDRESSES, end="budget")
+    return join([report_of(run.text(contexts=True))])
+
+
 def own(n: int) -> Call:
     return Call("parse", n, n * n, [Call("leaf", n, n)])
 
@@ -96,6 +103,12 @@ class Causes(unittest.TestCase):
                 self.assertLessEqual(max(map(len, text)), max(room, 80))
         first = summary(profile, rows_of(profile), Choice(by="share"), 80)
         self.assertIn("in look_up", first[3] + first[4])
+
+    def test_a_cause_that_never_returned(self) -> None:
+        rows = rows_of(never_returned())
+        main = next(row for row in rows if row.routine.entry == ADDRESSES["main"])
+        self.assertIn("100.0% of its cost so far is in parse with its callees, still open", " ".join(detail(main, 200)))
+        self.assertIn("(100% in parse, still open)", "\n".join(summary(never_returned(), [main], Choice(), 200)))
 
     def test_without_contexts(self) -> None:
         self.assertTrue(all(row.cause is None for row in rows_of(profile_of(through_a_list, contexts=False))))

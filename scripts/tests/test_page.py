@@ -37,6 +37,11 @@ class Pages(PageCase):
         self.assertIn("the budget of instructions was spent", str(self.ask(text_of("#summary"))))
         self.assertIn("_start › main › spin", str(self.ask(text_of("#open"))))
         self.assertIn("out/a", str(self.ask(text_of("#runs tbody"))))
+        name = "f(std::vector<std::vector<int> > const&)"
+        made = profiles.Made()
+        made.context(name, made.context("main", None, []), [])
+        self.open(made.profile("report", end="budget", still_open=2))
+        self.assertEqual(self.ask(text_of("#open")), f"Still open at the end: main › {name}")
 
     def test_the_first_routine_is_shown_with_what_is_known_of_it(self) -> None:
         self.open(profiles.sample())
@@ -64,6 +69,9 @@ class Pages(PageCase):
 
     def test_routines_are_filtered_by_name(self) -> None:
         self.open(profiles.sample())
+        for held in ("ctrlKey", "altKey", "metaKey"):
+            self.ask(f"document.body.dispatchEvent(new KeyboardEvent('keydown', {{key: '/', {held}: true, bubbles: true}}))")
+            self.assertEqual(self.ask("document.activeElement.tagName"), "BODY", held)
         self.browser.press("/")
         self.browser.type("STR")
         self.assertEqual(self.ask(NAMES), ["strlen"])
@@ -89,6 +97,9 @@ class Pages(PageCase):
             self.browser.press(key)
         self.assertEqual(self.shown(), "build_index")
         self.assertEqual(self.ask("document.querySelectorAll('#routines tr[aria-current]').length"), 1)
+        self.ask("document.querySelector('#routines th.name button').focus()")
+        self.browser.press("ArrowDown")
+        self.assertEqual(self.ask("document.activeElement.closest('tbody tr').sectionRowIndex"), 0)
         self.browser.open(path, "#routine=square_block")
         self.assertEqual(self.shown(), "square_block")
 
@@ -143,6 +154,11 @@ class Pages(PageCase):
         self.browser.press("End")
         self.assertEqual(self.ask("document.querySelectorAll('#routines tbody tr').length"), 5001)
         self.assertEqual(self.ask("document.activeElement.closest('tr').rowIndex"), 5001)
+        tops = self.ask("[...Array(60)].map(() => { document.activeElement.dispatchEvent(new KeyboardEvent('keydown',"
+                        " {key: 'ArrowUp', bubbles: true})); return document.activeElement.getBoundingClientRect().top; })")
+        under = self.ask("document.querySelector('#routines th').getBoundingClientRect().bottom")
+        assert isinstance(tops, list) and isinstance(under, float | int)
+        self.assertGreater(min(tops), under)
 
     def test_it_prints_in_light_colours(self) -> None:
         self.browser.resize(1280, 1200, dark=True)
@@ -150,6 +166,14 @@ class Pages(PageCase):
         self.browser.call("Emulation.setEmulatedMedia", media="print")
         self.assertEqual(self.ask("getComputedStyle(document.querySelector('#tools')).display"), "none")
         self.assertGreater(len(self.browser.call("Page.printToPDF")["data"]), 20000)
+
+    def test_it_prints_all_routines(self) -> None:
+        self.open(profiles.many(400))
+        self.browser.click("#cheap")
+        rows = "document.querySelectorAll('#routines tbody tr').length"
+        self.assertLess(self.ask(rows), 401)  # type: ignore[misc]
+        self.browser.call("Page.printToPDF")
+        self.assertEqual(self.ask(rows), 401)
 
 
 def contrast(one: str, other: str) -> float:

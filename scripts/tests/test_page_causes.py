@@ -8,12 +8,13 @@ from aprof_show.model import Profile
 from tests import profiles
 from tests.page_case import PageCase, text_of
 from tests.samples import ADDRESSES, Call, Run, points_of, report_of
-from tests.test_causes import SIZES, recursive, through_a_list
+from tests.test_causes import SIZES, never_returned, recursive, through_a_list
 from tests.test_growth import POSTINGS, SPREAD
 from tests.test_reasons import linear, squares, through_one
 
 CALLEES = "[...document.querySelectorAll('#callees tbody tr')].map((row) => [...row.cells].map((cell) => cell.textContent))"
 HIDDEN = "document.querySelector('{}').hidden"
+FOCUSED = "document.activeElement.id || document.activeElement.tagName"
 
 
 def profile_of(*calls: Call) -> Profile:
@@ -32,6 +33,23 @@ class Causes(PageCase):
         self.assertEqual(self.shown(), "compare")
         self.assertEqual([self.ask(HIDDEN.format(place)) for place in ("#cause", "#callees")], [True, True])
 
+    def test_the_focus_follows_to_the_detail(self) -> None:
+        """From a link or a row that goes with the routine before, and not from one that stays."""
+        cases = (("parse", "#cause a", "look_up", "detail"), ("parse", "#callees tbody a", "look_up", "detail"),
+                 ("look_up", "#callees tbody a", "compare", "detail"), ("parse", "#tree tbody tr:nth-child(2)", "main", "detail"),
+                 ("main", "#routines tbody tr:first-child a", "parse", "A"))
+        for name, place, wanted, focused in cases:
+            with self.subTest(name=name, place=place):
+                self.open(profile_of(*map(through_a_list, SIZES)), f"#routine={name}")
+                self.assertEqual(self.ask(FOCUSED), "BODY")
+                self.ask(f"document.querySelector('{place}').focus()")
+                self.browser.press("Enter")
+                self.assertEqual((self.shown(), self.ask(FOCUSED)), (wanted, focused))
+
+    def test_a_cause_that_never_returned_is_open(self) -> None:
+        self.open(never_returned(), f"#routine={ADDRESSES['main']:x}")
+        self.assertEqual(self.ask(text_of("#cause")), "100.0 % of its cost so far is in parse with its callees, still open.")
+
     def test_the_culprit_is_marked(self) -> None:
         """In the list of all routines and in that of what is called, and an indirect way is told."""
         self.open(profile_of(*map(through_one, SIZES)), "#routine=parse")
@@ -42,10 +60,23 @@ class Causes(PageCase):
         self.assertEqual(self.ask(marked), ["look_up"])
         self.assertIn("∗×2.0", str(self.ask(text_of("#routines .many b"))))
 
+    def test_a_bound_stands_alone(self) -> None:
+        """Of an open routine, however small its part is, and not of one that is known."""
+        made = profiles.Made()
+        root = made.context("main", None, [])
+        made.context("load", root, profiles.points_of([9000], lambda n: 1e9, calls=1))
+        made.context("leaf", made.context("spin", root, []), profiles.points_of([4], lambda n: 90, calls=1))
+        for name, part in (("main", "≥100.0 %"), ("spin", "≥0.0 %"), ("leaf", "<0.1 %")):
+            with self.subTest(name):
+                self.open(made.profile("report", end="budget", still_open=2), f"#routine={name}")
+                self.assertEqual(self.ask(text_of("#facts > div:nth-child(2) dd")), part)
+        shares = "[...document.querySelectorAll('#routines tbody tr')].map((row) => row.querySelector('.share').textContent)"
+        self.assertIn("≥0.0", self.ask(shares))  # type: ignore[arg-type]
+
     def test_the_key_has_what_the_page_uses(self) -> None:
         """Each badge of the listed routines, and nothing else."""
         superlinear, uncertain = "superlinear: faster", "uncertain: few sizes"
-        too_often, rising, dash = "harmless itself", "rises from size", "nothing to tell of growth"
+        too_often, rising, dash = "cheap by itself", "rises from size", "its growth is unknown"
         made = profiles.Made()
         root = made.context("main", None, profiles.points_of([9000], lambda n: 1e9, calls=1))
         made.context("rises", root, points_of([(size, float(cost)) for size, cost in POSTINGS]))
@@ -82,6 +113,16 @@ class Causes(PageCase):
         self.assertIn("To see them, tick “C library”.", told)
         self.browser.click("#library")
         self.assertEqual(self.ask(HIDDEN.format("#unlisted")), True)
+
+    def test_what_is_marked_for_its_calls_may_be_cheap(self) -> None:
+        self.open(profile_of(*map(through_a_list, SIZES), Call("leaf", 9, 10**8)))
+        self.assertEqual(self.ask(text_of("#unlisted")), "Not listed: 1 marked: look_up ∗×2.0. To see them, tick “below 1 %”.")
+        self.browser.press("/")
+        self.browser.type("leaf")
+        told = "Not listed: 2 marked: look_up ∗×2.0, parse ×3.9. To see them, clear the filter"
+        self.assertEqual(self.ask(text_of("#unlisted")), f"{told} and tick “below 1 %”.")
+        self.browser.click("#cheap")
+        self.assertEqual(self.ask(text_of("#unlisted")), f"{told}.")
 
     def test_callees(self) -> None:
         """Dearest first, direct recursion left out, and of a routine with many the first ones."""
@@ -135,6 +176,17 @@ class Causes(PageCase):
                 self.assertEqual((self.shown(), self.ask(HIDDEN.format("#unknown"))), (name, unknown))
         self.open(profile, "#routine=nosuch")
         self.assertEqual(self.ask(text_of("#unknown")), "There is no routine “nosuch” in this profile.")
+
+    def test_the_way_back_is_to_the_first_routine(self) -> None:
+        """Whatever the order and the filter are by then."""
+        self.open(profiles.sample())
+        self.browser.click("#routines th.name button")
+        self.browser.press("/")
+        self.browser.type("load")
+        self.browser.press("Enter")
+        self.assertEqual(self.shown(), "load")
+        self.ask("history.back()")
+        self.browser.wait(text_of("#name") + " === 'add_posting'")
 
     def test_no_scrolling_aside(self) -> None:
         self.open(profiles.sample())

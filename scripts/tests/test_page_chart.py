@@ -8,6 +8,7 @@ import unittest
 from aprof_show.model import Point
 from tests import profiles
 from tests.page_case import PageCase, TIP, text_of
+from tests.samples import points_of
 
 DRAW_LIMIT = 10.0
 """Seconds in which the charts of 100,000 points are drawn, on a machine that is fully loaded with other work (3.6 were seen)."""
@@ -63,6 +64,48 @@ class Charts(PageCase):
         self.browser.click("#scale input[value=log] + span")
         self.browser.move(5, 5)
         self.assertEqual(self.ask(CANVAS), log)
+
+    def test_calls_that_read_nothing_have_linear_axes_alone(self) -> None:
+        """And the next routine has logarithmic ones again."""
+        made = profiles.Made()
+        root = made.context("main", None, profiles.points_of([9000], lambda n: 1e9, calls=1))
+        made.context("idle", root, [Point(0, 50, 90, 90, 4500, None)])
+        self.open(made.profile("report"), "#routine=idle")
+        scale = "[...document.querySelectorAll('#scale input')].map((input) => [input.value, input.checked, input.disabled])"
+        self.assertEqual(self.ask(scale), [["log", False, True], ["linear", True, False]])
+        self.browser.click("#tree tbody tr:nth-child(2) .label")
+        self.assertEqual(self.shown(), "main")
+        self.assertEqual(self.ask(scale), [["log", True, False], ["linear", False, False]])
+
+    def test_what_has_no_place_on_logarithmic_axes_does_not_stretch_them(self) -> None:
+        made = profiles.Made()
+        root = made.context("main", None, profiles.points_of([9000], lambda n: 1e10, calls=1))
+        empty = Point(0, 5000, 10**6, 10**6, 5 * 10**9, None)
+        made.context("scan", root, [empty, *points_of((n, 5.0 * n) for n in profiles.over(4, 900, 8))])
+        self.open(made.profile("report"), "#routine=scan")
+        for kind, costs, calls in (("log", 10**4, 9), ("linear", 10**7, 10**4)):
+            with self.subTest(kind):
+                self.browser.click(f"#scale input[value={kind}] + span")
+                for chart, below in (("cost", costs), ("calls", calls)):
+                    greatest = self.ask(f"Chart.getChart('{chart}').scales.y.max")
+                    assert isinstance(greatest, float | int)
+                    self.assertLess(greatest, below)
+                    self.assertGreater(greatest, below / 10)
+
+    def test_of_a_column_of_pixels_the_cheapest_and_the_middle_point_are_drawn_too(self) -> None:
+        """Though each of them is of one call, whose least and greatest cost are one."""
+        for amount, all_three in ((9000, True), (9, False)):
+            with self.subTest(amount):
+                made = profiles.Made()
+                root = made.context("main", None, profiles.points_of([9000], lambda n: 1e10, calls=1))
+                made.context("scan", root, profiles.points_of(range(1, amount + 1), lambda n: 90 * n, calls=1, noise=0.5))
+                self.open(made.profile("report"), "#routine=scan")
+                self.browser.click("#scale input[value=linear] + span")
+                drawn = self.ask("Chart.getChart('cost').data.datasets.slice(-3).map(({data}) => data.length)")
+                assert isinstance(drawn, list)
+                least, mean, most = drawn
+                self.assertGreater(most, amount / 30)
+                self.assertEqual([one > most / 2 for one in (least, mean)], [all_three, all_three], drawn)
 
     def test_a_click_on_a_point_moves_the_guides(self) -> None:
         self.open_sample()

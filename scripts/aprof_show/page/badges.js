@@ -1,5 +1,5 @@
 // What stands beside or around a growth or a share, and the key that tells of what the listed routines have.
-const BOUNDS = { "≥": "at least: a call was still open at the end", "≤": "at most: calls nested in one another were counted each" };
+const BOUNDS = { "≥": "at least: a call was still open at the end", "≤": "at most: nested calls were each counted" };
 
 const lookOf = (name) => (cell) => cell.classList.add(name);
 
@@ -7,8 +7,8 @@ const BADGES = [
   { has: (r) => r.steep && !r.weak, word: "superlinear", about: "superlinear: faster than n log n, at least at the largest sizes", put: lookOf("steep") },
   { has: (r) => r.steep && r.weak, word: "superlinear, uncertain", about: "superlinear, but uncertain: few sizes, sizes within a factor of 4, or less steep at the end",
     put: (cell) => cell.classList.add("steep", "doubt") },
-  { has: (r) => !r.steep && r.weak, word: "uncertain", about: "uncertain: few sizes, sizes below 16, within a factor of 4, or less steep at the end", put: lookOf("doubt") },
-  { has: (r) => r.many, word: "many calls", about: "harmless itself, but its many calls together make what calls it superlinear",
+  { has: (r) => !r.steep && r.weak, word: "uncertain", about: `uncertain: few sizes, sizes below ${profile.leastLargest}, within a factor of 4, or less steep at the end`, put: lookOf("doubt") },
+  { has: (r) => r.many, word: "many calls", about: "cheap by itself, but called so often that its caller is superlinear",
     put: (cell, number) => { cell.classList.add("many"); number.prepend("∗"); } },
   { has: (r) => r.rising !== null, word: "rising", about: "rises from size to size: steeper than this at larger ones, so watch it",
     put: (cell, number) => number.append("↑") },
@@ -25,7 +25,7 @@ function tellKey(rows) {
     cell.append(number);
     return entry(cell, about);
   });
-  if (rows.some((r) => r.growth === null)) entries.push(entry(make("b", "", MINUS), "one size of input: nothing to tell of growth"));
+  if (rows.some((r) => r.growth === null)) entries.push(entry(make("b", "", MINUS), "only one input size, so its growth is unknown"));
   for (const [sign, about] of Object.entries(BOUNDS)) {
     if (rows.some(({ bound }) => bound === sign)) entries.push(entry(make("b", "", sign), about));
   }

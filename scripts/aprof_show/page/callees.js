@@ -37,7 +37,7 @@ function tellCause(routine) {
   byId("cause").hidden = !cause;
   if (!cause) return;
   byId("cause").replaceChildren(`${shareOf(cause.part)} of its cost${routine.sizes ? "" : " so far"} is in `, nameLink(routines[cause.routine]),
-    ` with its callees, called ${plural(cause.calls, "time")}`, ...wayOf(cause), `${cause.why ? `; ${cause.why}` : ""}.`);
+    ` with its callees, ${cause.calls ? `called ${plural(cause.calls, "time")}` : "still open"}`, ...wayOf(cause), `${cause.why ? `; ${cause.why}` : ""}.`);
 }
 
 function tellCallees(routine) {

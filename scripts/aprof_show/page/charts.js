@@ -7,6 +7,10 @@ const SERIES = [
 const PARTS = ["own", "thread", "kernel"];
 const figure = { points: null, log: true, anchor: null, hidden: new Set(), charts: [] };
 
+// a column of what the axes have a place for: on logarithmic ones not the calls that read nothing
+const drawnOf = (points, column) => column.subarray(figure.log ? firstFrom(points.size, 1) : 0);
+const greatest = (column) => column.reduce((a, b) => Math.max(a, b), 1);
+
 const narrow = () => byId("plots").clientWidth < 480;
 const gutter = () => (narrow() ? 54 : 62);
 
@@ -81,18 +85,20 @@ function series(points, drawn, look) {
     mean: { pointStyle: "line", borderColor: look.ink, borderWidth: 1.5, radius: radius - 0.2 },
     most: { pointStyle: "circle", borderColor: look.accent, backgroundColor: look.accent, borderWidth: 0, radius },
   };
-  // where all calls cost the same the three are one point
+  // where all calls cost the same the three are one point, if it is the same one that a column of pixels has of each
   const top = SERIES.findLast(({ key }) => !figure.hidden.has(key))?.key;
+  const differs = (i, k) => points.least[i] < points.most[i] || i !== drawn[top]?.[k];
   return SERIES.map(({ key }) => ({
     type: "scatter",
-    data: drawn[key].filter((i) => key === top || points.least[i] < points.most[i]).map((i) => ({ x: points.size[i], y: Math.max(points[key][i], figure.log ? 0.5 : 0) })),
+    data: drawn[key].filter((i, k) => key === top || differs(i, k))
+      .map((i) => ({ x: points.size[i], y: Math.max(points[key][i], figure.log ? 0.5 : 0) })),
     hidden: figure.hidden.has(key), ...styles[key],
   }));
 }
 
 function costChart(points, x, look) {
-  const [low, high] = points.least.reduce(([min, max], cost, i) => [Math.min(min, cost), Math.max(max, points.most[i])], [Infinity, 1]);
-  const y = axisOver(Math.max(low, 0.5), high, figure.log);
+  const low = drawnOf(points, points.least).reduce((a, b) => Math.min(a, b), Infinity);
+  const y = axisOver(Math.max(low, 0.5), greatest(drawnOf(points, points.most)), figure.log);
   const drawn = thinned(points, x, Math.round(byId("cost-plot").clientWidth - gutter() - 50));
   const at = figure.anchor;
   const guides = at === null ? [] : GUIDES.map(({ name, of }) =>
@@ -135,9 +141,9 @@ function bars(id, points, x, look, axis, columns, options) {
 }
 
 function callsChart(points, x, look) {
-  const most = points.calls.reduce((a, b) => Math.max(a, b), 1);
+  const most = greatest(drawnOf(points, points.calls));
   const y = axisOver(figure.log ? 0.8 : 0, figure.log ? Math.max(most, 1.3) : most, figure.log);
-  const value = (from, to) => points.calls.subarray(from, to + 1).reduce((a, b) => Math.max(a, b));
+  const value = (from, to) => greatest(points.calls.subarray(from, to + 1));
   return bars("calls", points, x, look, y, [{ colour: look.guide, value }], { wanted: 2 });
 }
 

@@ -7,12 +7,12 @@ function verdictOf(routine) {
   if (!routine.sizes) return "All its calls were still open at the end, so it has no points, and what they cost in the end is not known.";
   if (routine.growth === null) {
     const sizes = routine.sizes[0] === routine.sizes[1] ? "one size" : "one size other than 0";
-    return `Its calls have ${sizes}, which says nothing of growth: give the run several inputs, or show several reports at once.`;
+    return `Its calls have ${sizes}, which says nothing about growth: give the run several inputs, or show several reports at once.`;
   }
   const bent = routine.bent === null ? ""
     : ` Costs at one size differ, so that is of the mean; the greatest cost grows ${times(routine.bent)}.`;
   const weak = routine.weak ? ` That is uncertain: ${routine.weak}.` : "";
-  return `Where its input doubles, its ${bent ? "mean" : "greatest"} cost grows ${times(routine.growth)}${slopeOf(routine)}.${bent}${weak}`;
+  return `When its input doubles, its ${bent ? "mean" : "greatest"} cost grows ${times(routine.growth)}${slopeOf(routine)}.${bent}${weak}`;
 }
 
 // how it goes on at the largest sizes, and what that is
@@ -27,7 +27,7 @@ const spreadOf = (points) => points.most.reduce((spread, most, i) => Math.max(sp
 
 function factsOf(routine) {
   const facts = [["growth", times(routine.growth), routine.steep ? "steep" : ""],
-    ["with its callees", `${routine.bound}${percent(routine.share)} %`, "", "part of all instructions, with its callees"]];
+    ["with its callees", `${percent(routine.share, routine.bound)} %`, "", "part of all instructions, with its callees"]];
   if (routine.self !== null) facts.push(["its own", `${percent(routine.self)} %`, "", "its own part of all instructions, without its callees"]);
   facts.push(["calls", count(routine.calls)]);
   if (routine.sizes) facts.push([plural(routine.points[0].length, "size"), sizesText(routine)], ["greatest cost", short(routine.greatest)]);
@@ -67,8 +67,12 @@ function tellParts(points) {
 function setAxes(log) {
   wantsLog = log;
   const { points } = figure;
-  figure.log = log && points !== null && points.length > 0 && points.size[points.length - 1] > 0;
-  for (const input of byId("scale").querySelectorAll("input")) input.checked = input.value === (log ? "log" : "linear");
+  const hasLog = points !== null && points.length > 0 && points.size[points.length - 1] > 0;
+  figure.log = log && hasLog;
+  for (const input of byId("scale").querySelectorAll("input")) {
+    input.checked = input.value === (figure.log ? "log" : "linear");
+    input.disabled = input.value === "log" && !hasLog;
+  }
   drawCharts();
   mark(null);
   if (points && points.length) tellGuides();

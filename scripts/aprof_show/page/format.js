@@ -16,10 +16,11 @@ function short(value) {
   return count(value);
 }
 
-function percent(part) {
+// with the sign of a bound before it: what is at least a little is not below 0.1
+function percent(part, bound = "") {
   if (part === null || part === undefined) return MINUS;
-  if (part > 0 && part < 0.001) return "<0.1";
-  return (100 * part).toFixed(1);
+  if (part > 0 && part < 0.001) return bound ? `${bound}0.0` : "<0.1";
+  return `${bound}${(100 * part).toFixed(1)}`;
 }
 
 // as the terminal has it: a half is rounded up, and two digits are enough

@@ -16,7 +16,7 @@ function tellHead() {
   if (!routines.length) facts.push("no call has returned");
   byId("summary").textContent = facts.filter(Boolean).join(" · ");
   byId("open").hidden = !chains.length;
-  const told = chains.slice(0, 3).map((chain) => `Still open at the end: ${chain.replaceAll(" > ", " › ")}`);
+  const told = chains.slice(0, 3).map((chain) => `Still open at the end: ${chain.join(" › ")}`);
   if (chains.length > 3) told.push(`and ${count(chains.length - 3)} more`);
   byId("open").textContent = told.join("\n");
 }
@@ -32,6 +32,7 @@ function tellCounts() {
   if (!routines.some((r) => !r.cheap)) byId("cheap").checked = true;
 }
 
+// shows the routine that the address names, or else that which the page opens with
 function follow() {
   const found = /^#routine=(.*)$/.exec(location.hash);
   let word = null;
@@ -41,11 +42,14 @@ function follow() {
   const wanted = word === null ? undefined : routineOf(word);
   byId("unknown").hidden = word === null || Boolean(wanted);
   byId("unknown").textContent = `There is no routine “${word}” in this profile.`;
-  const routine = wanted || table.rows[0] || routines[0];
+  const routine = wanted || firstListed;
   byId("detail").hidden = !routine;
   if (!routine || routine === shown) return;
+  const focused = document.activeElement;
   showRoutine(routine);
   markRow();
+  // a link or a row that told of the routine before is gone or hidden, and the focus would be nowhere
+  if (!focused.getClientRects().length) byId("detail").focus({ preventScroll: true });
 }
 
 function chooseRow(event) {
@@ -73,11 +77,12 @@ function watch() {
   });
   byId("scale").addEventListener("change", (event) => setAxes(event.target.value === "log"));
   document.addEventListener("keydown", (event) => {
-    if (event.key !== "/" || event.target.matches("input[type=search]")) return;
+    if (event.key !== "/" || event.ctrlKey || event.altKey || event.metaKey || event.target.matches("input[type=search]")) return;
     event.preventDefault();
     byId("filter").focus();
   });
   addEventListener("hashchange", follow);
+  addEventListener("beforeprint", () => drawMore(table.rows.length));
   for (const media of ["(prefers-color-scheme: dark)", "print"]) matchMedia(media).addEventListener("change", redraw);
   let width = byId("plots").clientWidth;
   new ResizeObserver(() => {
@@ -96,6 +101,7 @@ watchPointer();
 tellHead();
 tellCounts();
 drawTable();
+const firstListed = table.rows[0] || routines[0];
 watch();
 follow();
 document.documentElement.dataset.ready = "true";

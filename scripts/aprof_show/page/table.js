@@ -1,6 +1,6 @@
 // The table of the routines.
 const CHUNK = 150;
-const table = { key: null, down: true, rows: [], drawn: 0, links: new Map() };
+const table = { key: null, down: true, rows: [], drawn: 0 };
 
 const sizesText = (routine) => {
   if (!routine.sizes) return MINUS;
@@ -34,7 +34,7 @@ function picture(routine) {
 function growthText(growth) {
   if (growth !== null && growth !== undefined) return document.createTextNode(times(growth));
   const dash = make("span", "faint", MINUS);
-  dash.title = growth === null ? "one size of input: nothing to tell of growth" : "not known for the calls by this way";
+  dash.title = growth === null ? "only one input size, so its growth is unknown" : "not known for calls along this path";
   return dash;
 }
 
@@ -51,7 +51,7 @@ function growthCell(routine) {
 }
 
 function partCell(part, bound = "") {
-  const cell = make("span", "part", `${bound}${percent(part)}`);
+  const cell = make("span", "part", percent(part, bound));
   if (bound) cell.title = BOUNDS[bound];
   if (part !== null) cell.style.setProperty("--width", `${Math.min(100, 100 * part).toFixed(1)}%`);
   return cell;
@@ -114,17 +114,22 @@ function tellListed(word) {
   byId("unlisted").textContent = left.length ? unlistedText(left, word) : "";
 }
 
-// the marked routines that are not listed, the first of them by name, and how to see them
+// the marked routines that are not listed, the first of them by name
 function unlistedText(left, word) {
   const kinds = [[left.filter((r) => r.library), "of the C library"], [left.filter((r) => !r.named), "without a name"]]
     .filter(([some]) => some.length).map(([some, what]) => `${count(some.length)} ${what}`);
   const first = [...left.filter((r) => r.many), ...left.filter((r) => !r.many)];
   const names = first.slice(0, 3).map((r) => `${r.name} ${r.many ? "∗" : ""}${times(r.growth)}`).join(", ");
-  const way = word ? "clear the filter" : "";
-  const ticks = left.some((r) => r.library) && !byId("library").checked ? "tick “C library”" : "";
   const more = left.length > 3 ? ` and ${count(left.length - 3)} more` : "";
   return `Not listed: ${count(left.length)} marked${kinds.length ? ` (${kinds.join(", ")})` : ""}: ${names}${more}. To see them, ${
-    [way, ticks].filter(Boolean).join(" and ")}.`;
+    wayToSee(left, word)}.`;
+}
+
+// what is to be cleared and ticked so that routines are listed
+function wayToSee(left, word) {
+  const boxes = [["cheap", "“below 1 %”"], ["library", "“C library”"]]
+    .filter(([box]) => !byId(box).checked && left.some((r) => r[box])).map(([, name]) => name);
+  return [word ? "clear the filter" : "", boxes.length ? `tick ${boxes.join(" and ")}` : ""].filter(Boolean).join(" and ");
 }
 
 // first the greatest, then the least, then again what to look at first
@@ -140,7 +145,7 @@ function makeHead() {
   for (const column of COLUMNS) {
     const button = make("button", "", column.name);
     button.type = "button";
-    button.title = `${column.about ? `${column.about}; ` : ""}a third click brings back what to look at first`;
+    button.title = `${column.about ? `${column.about}; ` : ""}a third click restores the default order`;
     button.addEventListener("click", () => sortBy(column));
     const head = make("th", `${column.key}${column.text ? "" : " number"}`, button);
     head.scope = "col";
@@ -161,7 +166,7 @@ function markRow() {
 }
 
 function moveInTable(event) {
-  const row = event.target.closest("tr");
+  const row = event.target.closest("tbody tr");
   const body = byId("routines").tBodies[0];
   const now = row ? row.sectionRowIndex : -1;
   const to = { ArrowDown: now + 1, ArrowUp: now - 1, Home: 0, End: table.rows.length - 1, PageDown: now + 10, PageUp: now - 10 }[event.key];
