@@ -177,7 +177,7 @@ class Count:
 
 COUNTS = [
     Count("docs/ARCHITECTURE.md", r"(\d+)\s+must-fail\s+edits", edits),
-    Count("docs/PERFORMANCE.md", r"\((\d+)\s+now\)", edits),
+    Count("docs/PERFORMANCE.md", r"of\s+the\s+(\d+)\s+edits", edits),
     Count("docs/ARCHITECTURE.md", r"table of (\d+) forms", forms),
     Count("crates/rv_isa/README.md", r"table of (\d+) forms", forms),
     Count("crates/rv_exec/README.md", r"all (\d+) forms", forms),
