@@ -37,4 +37,4 @@ rm -rf "$library/lib" "$library/include"
 mkdir -p "$library/lib"
 cp libgcc.a "$library/lib"
 cp -r made/lib made/include "$library"
-echo "setup.sh: made $library" >&2
+echo "setup.sh: made $library${APROF_MUSL:+; the compilers find it by APROF_MUSL=$library}" >&2

@@ -53,10 +53,8 @@ def cause_sentence(row: Row, cause: Cause) -> str:
 
 
 def growth_lines(row: Row, growth: Growth) -> list[str]:
-    """The verdict, what it comes from, and what larger sizes would cost."""
+    """The verdict, what it comes from, and what calls of larger sizes would cost."""
     weak = f", uncertain: {growth.weak}" if growth.weak else ""
-    most = row.routine.points[-1].size
-    twice, tenfold = about(projected(row, 2), projected(row, 10))
     factor = growth_text(growth).rstrip(" ^")
     verdict = f"growth {factor}, {growth.guess}{weak}"
     if growth.rising is not None:
@@ -65,12 +63,16 @@ def growth_lines(row: Row, growth: Growth) -> list[str]:
         f"by the mean, as costs at one size differ (up to x{short_ratio(row.spread)}): "
         f"the greatest cost grows {factor_text(factor_of(growth.bent))}"
     ] if growth.bent is not None else []
-    return [
-        verdict,
-        *bent,
-        estimates_text(growth),
-        f"at this growth: {twice} for a call of size {short(2 * most)}, {tenfold} for one of {short(10 * most)}",
-    ]
+    return [verdict, *bent, estimates_text(growth), *beyond_lines(row)]
+
+
+def beyond_lines(row: Row) -> list[str]:
+    """What calls of larger sizes would cost."""
+    most, at_twice, at_tenfold = row.routine.points[-1].size, projected(row, 2), projected(row, 10)
+    if at_twice is None or at_tenfold is None:
+        return []
+    twice, tenfold = about(at_twice, at_tenfold)
+    return [f"at this growth: {twice} for a call of size {short(2 * most)}, {tenfold} for one of {short(10 * most)}"]
 
 
 def estimates_text(growth: Growth) -> str:

@@ -30,6 +30,9 @@ SUPERLINEAR = 2.3
 LEAST_LARGEST = 16
 """Below this largest size no growth counts as superlinear: it is mostly one from case to case."""
 
+LEAST_RATIO = 2
+"""No estimate is made from sizes within this factor."""
+
 LINEAR = 0.85
 """From this exponent on a growth counts as linear."""
 
@@ -70,6 +73,11 @@ class Growth:
     def is_steep(self) -> bool:
         """Whether it is superlinear by its factor, whatever its sizes."""
         return factor_of(self.ahead) > SUPERLINEAR
+
+    @property
+    def foretells(self) -> bool:
+        """Whether its sizes are far enough apart for an estimate beyond them."""
+        return self.size_ratio >= LEAST_RATIO
 
     @property
     def guess(self) -> str:

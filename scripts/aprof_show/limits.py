@@ -8,18 +8,23 @@ from aprof_show.costs import Cost, costs_of
 from aprof_show.growth import Growth, factor_of
 from aprof_show.model import Context, Profile, Report, Routine
 from aprof_show.rows import Row, ordered
-from aprof_show.table import Choice, share_text
-from aprof_show.terminal import factor_text, plural
+from aprof_show.table import NAMED, Choice, share_text
+from aprof_show.terminal import cut, factor_text, plural
+from aprof_show.words import listed
 
 
 def above(rows: Sequence[Row], limit: float, named: Collection[Routine], choice: Choice) -> list[Row]:
     """The rows whose growth is above a limit, or rises above it, in the order of the table. With names only those routines are
     looked at; without, those that the table would tell of, and none whose growth is uncertain."""
-    found = [row for row in ordered(rows, choice.by) if row.growth and factor_of(row.growth.ahead) > limit]
+    found = steeper(rows, limit, choice)
     if named:
         return [row for row in found if row.routine in named]
     least = choice.least or 0.0
     return [row for row in found if not row.uncertain and row.share >= least and (choice.library or not row.library)]
+
+
+def steeper(rows: Sequence[Row], limit: float, choice: Choice) -> list[Row]:
+    return [row for row in ordered(rows, choice.by) if row.growth and factor_of(row.growth.ahead) > limit]
 
 
 def above_text(rows: Sequence[Row], limit: float) -> list[str]:
@@ -41,12 +46,36 @@ def above_limit(growth: Growth, limit: float) -> str:
 
 
 def not_judged(rows: Sequence[Row], limit: float, named: Collection[Routine], choice: Choice) -> list[str]:
-    """What is said of routines of the C library whose growth is above the limit, where they don't count."""
-    if named or choice.library:
+    """What is said of routines whose growth is above the limit, where they don't count: those of the C library, and those whose
+    growth is uncertain, if they are not cheap."""
+    if named:
         return []
-    left = [row for row in above(rows, limit, named, replace(choice, library=True)) if row.library]
-    text = f"{plural(len(left), 'C library routine')} above {factor_text(limit)} not counted: --library"
-    return [text] if left else []
+    certain = above(rows, limit, named, replace(choice, library=True))
+    library = [row for row in certain if row.library and not choice.library]
+    loose = [row for row in steeper(rows, limit, choice) if row.uncertain and not row.library and is_dear(row, choice)]
+    over = f"above {factor_text(limit)} not counted"
+    texts = (
+        f"{plural(len(library), 'C library routine')} {over}: --library" if library else "",
+        f"{plural(len(loose), 'routine')} of uncertain growth {over}: give more sizes, or name them" if loose else "",
+    )
+    return [text for text in texts if text]
+
+
+def is_dear(row: Row, choice: Choice) -> bool:
+    """Whether its share is such that the table lists it."""
+    return row.share >= (0.01 if choice.least is None else choice.least)
+
+
+def of_one_input(profile: Profile, rows: Sequence[Row], named: Collection[Routine], choice: Choice) -> Iterator[str]:
+    """A warning where a single report is judged, in which many a routine has one size."""
+    if named or len(profile.reports) > 1:
+        return
+    unknown = [row for row in ordered(rows, "share") if row.growth is None and not row.library and is_dear(row, choice)]
+    if unknown:
+        first = [cut(row.routine.label, 50) for row in unknown[:NAMED]]
+        rest = [f"{len(unknown) - NAMED} more"] if len(unknown) > NAMED else []
+        has = "has" if len(unknown) == 1 else "have"
+        yield f"{listed([*first, *rest])} {has} at most one size other than 0, so not judged: give reports of several inputs"
 
 
 def unjudged(rows: Sequence[Row], named: Collection[Routine]) -> Iterator[str]:

@@ -64,6 +64,16 @@ OTHER_NAMES = {
 """What options are called elsewhere."""
 
 
+class Once(argparse.Action):
+    """Stores the word behind an option, which is refused where it stands a second time."""
+
+    def __call__(self, parser: argparse.ArgumentParser, namespace: argparse.Namespace, value: Any, option: str | None = None) -> None:
+        if getattr(namespace, self.dest) is not None:
+            hint = ": several old reports go into a folder" if option == "--against" else ""
+            raise Refused(f"{option} stands twice{hint}")
+        setattr(namespace, self.dest, value)
+
+
 class Parser(argparse.ArgumentParser):
     """Says what is wrong in a line, as for all else that is refused, and doesn't hide that help can't be written."""
 
@@ -71,7 +81,10 @@ class Parser(argparse.ArgumentParser):
         print(self.format_help(), end="", file=file, flush=True)
 
     def error(self, message: str) -> NoReturn:
-        what, _, words = message.partition(": ")
+        what, _, words = message.removeprefix("argument ").partition(": ")
+        if words == "expected one argument":
+            wanted = self._option_string_actions[what].metavar or " | ".join(ORDERS)
+            raise Refused(f"{what} wants a word behind it: {what} {wanted}")
         if what != "unrecognized arguments":
             raise Refused(message.removeprefix("argument "))
         option = words.split()[0].partition("=")[0]
@@ -93,10 +106,10 @@ def parser() -> argparse.ArgumentParser:
     add = result.add_argument
     add("words", metavar="REPORT | ROUTINE", nargs="*", help="a file, a folder of such files, or a routine's name or address")
     add_choices(result)
-    add("--image", metavar="IMAGE", help="the executable: for names, and the file and line where a routine begins")
-    add("--against", metavar="OLD", help="compare with this earlier report, or a folder of them")
+    add("--image", metavar="IMAGE", action=Once, help="the executable: for names, and the file and line where a routine begins")
+    add("--against", metavar="OLD", action=Once, help="compare with this earlier report, or a folder of them")
     above = "status 1 if a growth, or what it rises to (^), exceeds FACTOR and is not marked ~; with --against that of now"
-    add("--fail-above", metavar="FACTOR", type=factor, help=above)
+    add("--fail-above", metavar="FACTOR", type=factor, action=Once, help=above)
     add("--plot", action="store_true", help="a chart of the routine")
     add("--version", action="store_true", help="the version of aprof")
     add_kinds(result)
@@ -113,9 +126,9 @@ def add_choices(result: argparse.ArgumentParser) -> None:
     order = "sorts by one of these; share: with its callees, self: its own; thread, kernel: the part of the input they wrote"
     add("--routine", metavar="NAME", action="append", default=[], help="this routine alone; may be repeated")
     add("--all", action="store_true", help="all routines")
-    add("--min", metavar="PERCENT", type=share, help=least)
-    add("--top", metavar="N", type=number, help="at most N routines")
-    add("--by", choices=ORDERS, help=order)
+    add("--min", metavar="PERCENT", type=share, action=Once, help=least)
+    add("--top", metavar="N", type=number, action=Once, help="at most N routines")
+    add("--by", choices=ORDERS, action=Once, help=order)
     add("--library", action="store_true", help="routines of the C library too, each in its own line")
 
 
@@ -131,8 +144,8 @@ def add_kinds(result: argparse.ArgumentParser) -> None:
         ("--csv", "all points, as CSV"),
     ):
         kinds.add_argument(option, action="store_true", help=text)
-    kinds.add_argument("--callers", metavar="ROUTINE", help="who calls it, and what that costs")
-    kinds.add_argument("--page", metavar="FILE", help="writes a page for a browser")
+    kinds.add_argument("--callers", metavar="ROUTINE", action=Once, help="who calls it, and what that costs")
+    kinds.add_argument("--page", metavar="FILE", action=Once, help="writes a page for a browser")
 
 
 def share(text: str) -> float:

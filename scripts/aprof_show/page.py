@@ -95,7 +95,7 @@ def row_json(row: Row, line: str | None, places: Places) -> Json:
         "many": row.many,
         "named": is_named(routine),
         "greatest": greatest_cost(routine),
-        "twice": float(f"{projected(row, 2):.2g}"),
+        "twice": rounded(projected(row, 2)),
         "share": row.share,
         # at least so much where calls were open, at most where nested calls were counted each
         "bound": "≥" if row.open else "" if row.exact else "≤",
@@ -123,6 +123,10 @@ def cause_json(row: Row, places: Places) -> Json | None:
         "more": cause.more,
         "why": row.reason.text if row.reason else None,
     }
+
+
+def rounded(cost: float | None) -> float | None:
+    return None if cost is None else float(f"{cost:.2g}")
 
 
 def growth_json(growth: Growth | None) -> float | None:

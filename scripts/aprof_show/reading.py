@@ -36,7 +36,7 @@ class Lines:
     def next(self) -> str:
         if self.at_end():
             self.number += 1
-            raise self.bad("the file ends here, before its last line" + " (cut off in a line)" * self.cut_off)
+            raise self.bad("the file ends here, before its last line" + " (cut off in a line)" * self.cut_off + ": store it again")
         self.number += 1
         return self.lines[self.number - 1]
 

@@ -52,8 +52,8 @@ def symbols_of(data: bytes) -> list[tuple[int, str]]:
 
 
 def name_routines(routines: Iterable[Routine], symbols: Sequence[tuple[int, str]], path: str) -> None:
-    """Gives a routine without a name that of the symbol at its entry, or of the one below with the distance. The names that
-    there are have to be the image's."""
+    """Gives a routine without a name that of the symbol at its entry, or of the one below with the distance, or its address where
+    none is below. The names that there are have to be the image's."""
     addresses = [address for address, _ in symbols]
     for routine in routines:
         place = bisect_right(addresses, routine.entry) - 1
@@ -65,6 +65,8 @@ def name_routines(routines: Iterable[Routine], symbols: Sequence[tuple[int, str]
             routine.name = symbols[place][1]
         elif place >= 0:
             routine.shown = f"{symbols[place][1]}+{routine.entry - addresses[place]:#x}"
+        else:
+            routine.shown = f"{routine.entry:08x}"
 
 
 def run(command: Sequence[str], text: str) -> str | None:

@@ -123,18 +123,25 @@ def projected_columns(rows: Sequence[Row]) -> list[Column]:
     """The greatest cost, and an estimate of it at twice and at ten times the largest size."""
     return [
         Column(GREATEST_COST, [short(greatest_cost(row.routine)) for row in rows]),
-        Column("ESTIMATE\nAT 2x", [short(projected(row, 2)) if row.growth else "-" for row in rows]),
-        Column("ESTIMATE\nAT 10x", [short(projected(row, 10)) if row.growth else "-" for row in rows]),
+        Column("ESTIMATE\nAT 2x", [estimate_text(row, 2) for row in rows]),
+        Column("ESTIMATE\nAT 10x", [estimate_text(row, 10) for row in rows]),
     ]
+
+
+def estimate_text(row: Row, times: int) -> str:
+    estimate = projected(row, times)
+    return "-" if estimate is None else short(estimate)
 
 
 def greatest_cost(routine: Routine) -> int:
     return max((point.most for point in routine.points), default=0)
 
 
-def projected(row: Row, times: int) -> float:
-    """The greatest cost at so many times the largest size, if it goes on to grow as it did."""
-    return float(greatest_cost(row.routine) * times ** min(row.growth.ahead, 20.0)) if row.growth else 0.0
+def projected(row: Row, times: int) -> float | None:
+    """The greatest cost at so many times the largest size, if it goes on to grow as it did; None where that isn't known."""
+    if row.growth is None or not row.growth.foretells:
+        return None
+    return float(greatest_cost(row.routine) * times ** min(row.growth.ahead, 20.0))
 
 
 def share_text(row: Row) -> str:

@@ -37,6 +37,8 @@ REASONS = {
 }
 
 PAGE_WORDS = "--page FILE REPORT..."
+PAGE_MARK = b'<meta name="generator" content="aprof show">'
+"""By this in its head a page is known (page/page.html)."""
 BEHIND_CALLERS = "the routine goes directly after --callers: --callers ROUTINE REPORT..."
 
 
@@ -50,7 +52,7 @@ def sort_words(options: argparse.Namespace) -> tuple[list[str], list[str]]:
     paths = [word for word in options.words if os.path.exists(word)]
     names = [word for word in options.words if not os.path.exists(word)] + options.routine
     if options.plot and not names:
-        raise Refused("--plot wants a routine")
+        raise Refused(f"--plot wants a routine: {called.name()} REPORT... ROUTINE --plot")
     if not paths:
         raise Refused(missing_text(options, names))
     return paths, names
@@ -110,7 +112,7 @@ def check(options: argparse.Namespace, names: Sequence[str], kind: str) -> None:
             continue
         if word == "a routine" and kind in REASONS:
             raise Refused(f"{kind} takes no routine ({names[0]}): {REASONS[kind]}")
-        raise Refused(f"{kind} takes no {word.removeprefix('a ')}")
+        raise Refused(f"{kind} takes no {word.removeprefix('a ')}; {taken_by(kind)}")
     chosen = [word for word in given(options, names) if word in CHOICE]
     if names and chosen and kind != "--tree":
         raise Refused(f"{chosen[0]} chooses among all routines, and {names[0]} is one: give one of both")
@@ -118,18 +120,23 @@ def check(options: argparse.Namespace, names: Sequence[str], kind: str) -> None:
         raise Refused("--all and --min exclude each other")
 
 
+def taken_by(kind: str) -> str:
+    """What a kind of output takes besides reports and --image."""
+    return f"it takes {listed(sorted(TAKES[kind]))}" if TAKES[kind] else "it takes only reports and --image"
+
+
 def check_page(path: str, inputs: Iterable[str], image: str | None) -> None:
-    """A page is written over nothing but a page."""
+    """A page is written over nothing but an older page."""
     if not os.path.isfile(path):
         return
     if image and os.path.samefile(path, image):
         raise Refused(f"{path} is the image, and is not overwritten: {PAGE_WORDS}")
     with open(path, "rb") as file:
-        head = file.read(64)
+        head = file.read(256)
     if head.startswith(b"aprof ") or any(os.path.samefile(path, one) for one in inputs):
         raise Refused(f"{path} is a report, and is not overwritten: {PAGE_WORDS}")
-    if head.strip() and not head.lstrip().lower().startswith((b"<!doctype html", b"<html")):
-        raise Refused(f"{path} is no page, and is not overwritten: {PAGE_WORDS}")
+    if head.strip() and PAGE_MARK not in head:
+        raise Refused(f"{path} is no page of `{called.name()}`, and is not overwritten: {PAGE_WORDS}")
 
 
 def named(routines: Collection[Routine], name: str) -> list[Routine]:

@@ -9,6 +9,7 @@ from aprof_show.detail import detail
 from aprof_show.growth import factor_of, growth_of
 from aprof_show.model import Point, Routine
 from aprof_show.rows import row_of
+from aprof_show.table import projected
 from tests.samples import points_of, stored
 
 DOUBLED = [60, 120, 240, 480, 960]
@@ -151,6 +152,13 @@ class Bends(unittest.TestCase):
                 lines = detail(row, 80)
                 self.assertIn(part, " ".join(map(str.strip, lines)))
                 self.assertLessEqual(max(map(len, lines)), 80)
+
+    def test_no_estimate_from_sizes_that_hardly_differ(self) -> None:
+        for sizes, known in ((range(9, 11), False), (range(10, 20), False), (range(10, 21), True)):
+            with self.subTest(sizes=sizes):
+                points = points_of([(size, float(size * size)) for size in sizes])
+                row = row_of(Routine(0x10000, "parse", points), growth_of(points), 10**9, None)
+                self.assertEqual((projected(row, 2) is not None, "at this growth" in "".join(detail(row, 80))), (known, known))
 
 
 class FewPoints(unittest.TestCase):

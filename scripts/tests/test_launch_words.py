@@ -9,6 +9,7 @@ from collections.abc import Sequence
 
 from aprof_launch import tables
 from aprof_launch.commands import COMMANDS
+from aprof_launch.images import compiler
 from tests.launched import Launched
 from tests.samples import ROOT
 
@@ -159,7 +160,7 @@ class Words(Launched):
     def test_files_of_no_use(self) -> None:
         """Images and traces that are empty or cut off, and a text."""
         bubble = (self.folder / "bubble").read_bytes()
-        text = (b"int x;\n", "it is a text, not an executable: compile it first (examples/musl/cc)\n")
+        text = (b"int x;\n", f"it is a text, not an executable: compile it first ({compiler()})\n")
         report = (b"aprof 2\nend exit 0\n", "it is a report, not an executable: `./aprof show` shows it\n")
         trace = (b"aprof trace 1\n", "it is a trace, not an executable: `./aprof replay` makes a report of it\n")
         images = ((b"", "it is empty"), (bubble[:-1], CUT), (bubble[:9], CUT), text, report, trace)

@@ -41,6 +41,18 @@ class Limits(unittest.TestCase):
                 self.assertEqual(warned(*paths, "--fail-above", "9", "--routine", "parse"), one)
                 self.assertEqual(warned(*paths, "--fail-above", "9"), "")
 
+    def test_what_is_not_judged(self) -> None:
+        """Routines of one size where there is one report, and those of uncertain growth."""
+        many = Run([Call(name, 9, 1000) for name in ("main", "parse", "look_up", "leaf")], ADDRESSES)
+        said = "main, parse, look_up and 1 more have at most one size other than 0, so not judged: give reports of several inputs\n"
+        self.assertEqual(warned(*self.paths(False, many), "--fail-above", "9"), f"show: warning: {said}")
+        self.assertEqual(warned(*self.paths(False, many, many), "--fail-above", "9", "--min", "0"), "")
+        two = [Run([Call("main", size, size * size)], ADDRESSES) for size in (100, 200)]
+        paths = self.paths(False, *two)
+        told = "1 routine of uncertain growth above x2.5 not counted: give more sizes, or name them\n"
+        self.assertEqual(show(*paths, "--fail-above", "2.5"), told)
+        self.assertEqual(show(*paths, "--fail-above", "4.5"), "")
+
 
 if __name__ == "__main__":
     unittest.main()

@@ -51,7 +51,12 @@ MISTAKES: list[tuple[list[str], str]] = [
     ([WORDS, "--image", ""], "show: an empty word behind --image\n"),
     (["--image", "README.md", WORDS], "show: README.md is no 32-bit little-endian ELF file"),
     (["--image", "nope", WORDS], "show: nope: no such file or directory"),
-    ([WORDS, "--plot"], "show: --plot wants a routine"),
+    ([WORDS, "--plot"], "show: --plot wants a routine: show REPORT... ROUTINE --plot\n"),
+    ([WORDS, "--page"], "show: --page wants a word behind it: --page FILE\n"),
+    ([WORDS, "--by"], "show: --by wants a word behind it: --by growth | share | self | name | thread | kernel\n"),
+    (["--against", WORDS, "--against", WORDS, WORDS], "show: --against stands twice: several old reports go into a folder\n"),
+    (["--fail-above", "2", WORDS, "--fail-above", "9"], "show: --fail-above stands twice\n"),
+    (["--callers", "10070", "--callers", "10070", CONTEXTS], "show: --callers stands twice\n"),
 ]
 
 

@@ -21,7 +21,7 @@ REFUSED: list[tuple[list[str], str]] = [
     (["--page", "p.html", "--fail-above", "2", WORDS], "--page takes no --fail-above"),
     (["--page", "p.html", WORDS, "find"], "--page takes no routine (find): a page has all routines"),
     (["--page", "p.html", WORDS, "nosuch"], "no file and no routine called nosuch"),
-    (["--page", "p.html", "--all", WORDS], "--page takes no --all"),
+    (["--page", "p.html", "--all", WORDS], "--page takes no --all; it takes only reports and --image"),
     (["--csv", WORDS, "nosuch"], "no file and no routine called nosuch"),
     (["--json", WORDS, "nosuch"], "no file and no routine called nosuch"),
     (["--csv", "--top", "2", WORDS], "--csv takes no --top"),
@@ -45,7 +45,7 @@ REFUSED: list[tuple[list[str], str]] = [
     ([WORDS, "find", "--top", "2"], "a routine takes no --top"),
     ([WORDS, "--all", "--min", "3"], "--all and --min exclude each other"),
     ([CACHE, "main"], "no file main, and a report of `aprof cache` takes no routine"),
-    ([CACHE, "--library"], "a report of `aprof cache` takes no --library"),
+    ([CACHE, "--library"], "a report of `aprof cache` takes no --library; it takes --all, --min and --top"),
     ([CACHE, "--against", WORDS], "a report of `aprof cache` takes no --against"),
     ([CACHE, "--tree"], "a report of `aprof cache` takes no --tree"),
 ]
@@ -72,7 +72,7 @@ class Refusals(unittest.TestCase):
             report, other, page = (Path(folder, name) for name in ("report", "other", "page.html"))
             for path in (report, other):
                 path.write_bytes((ROOT / WORDS).read_bytes())
-            page.write_text("<!DOCTYPE html>")
+            show("--page", str(page), BUBBLE)
             for words in ((str(other), str(report)), (str(report), str(report))):
                 self.assertIn("is a report, and is not overwritten", show("--page", *words, status=2))
             self.assertEqual(other.read_bytes(), (ROOT / WORDS).read_bytes())
@@ -82,11 +82,13 @@ class Refusals(unittest.TestCase):
             for same in (image, link):
                 said = show("--page", str(same), "--image", str(image), str(report), status=2)
                 self.assertEqual(said, f"show: {same} is the image, and is not overwritten: --page FILE REPORT...\n")
-            source, empty = Path(folder, "words.c"), Path(folder, "empty")
-            source.write_text("/* words */")
-            said = show("--page", str(source), str(report), status=2)
-            self.assertEqual(said, f"show: {source} is no page, and is not overwritten: --page FILE REPORT...\n")
-            self.assertEqual(source.read_text(), "/* words */")
+            empty = Path(folder, "empty")
+            for name, text in (("words.c", "/* words */"), ("thesis.html", "<!DOCTYPE html>\n<html><title>Thesis</title></html>\n")):
+                foreign = Path(folder, name)
+                foreign.write_text(text)
+                said = show("--page", str(foreign), str(report), status=2)
+                self.assertEqual(said, f"show: {foreign} is no page of `show`, and is not overwritten: --page FILE REPORT...\n")
+                self.assertEqual(foreign.read_text(), text)
             empty.touch()
             for new in (page, empty, Path(folder, "new.html")):
                 show("--page", str(new), str(report))

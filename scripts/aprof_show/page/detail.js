@@ -31,7 +31,7 @@ function factsOf(routine) {
   if (routine.self !== null) facts.push(["its own", `${percent(routine.self)} %`, "", "its own part of all instructions, without its callees"]);
   facts.push(["calls", count(routine.calls)]);
   if (routine.sizes) facts.push([plural(routine.points[0].length, "size"), sizesText(routine)], ["greatest cost", short(routine.greatest)]);
-  if (routine.growth !== null) facts.push(["estimate at twice the size", `≈ ${short(routine.twice)}`]);
+  if (routine.twice !== null) facts.push(["estimate at twice the size", `≈ ${short(routine.twice)}`]);
   if (spreadOf(figure.points) >= 1.05) facts.push(["spread at one size", times(spreadOf(figure.points))]);
   return facts;
 }
