@@ -88,8 +88,10 @@ class Listed(unittest.TestCase):
 
     def test_projected(self) -> None:
         row = row_of(profile_of({"square": lambda n: n * n}), "square")
-        self.assertAlmostEqual(projected(row, 2) / 4 / 128**2, 1, delta=0.05)
-        self.assertAlmostEqual(projected(row, 10) / 100 / 128**2, 1, delta=0.15)
+        for times, delta in ((2, 0.05), (10, 0.15)):
+            estimate = projected(row, times)
+            assert estimate is not None
+            self.assertAlmostEqual(estimate / times**2 / 128**2, 1, delta=delta)
         wide = summary(profile_of({"square": lambda n: n * n}), [row], Choice(), 120)
         self.assertIn("ESTIMATE ESTIMATE", wide[1])
         self.assertIn("AT 10x", wide[2])
