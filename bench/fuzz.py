@@ -154,7 +154,7 @@ def options_of() -> argparse.Namespace:
     """The words of the command line."""
     parser = host.parser(__doc__)
     host.add_program(parser)
-    parser.add_argument("runs", metavar="RUNS", nargs="?", type=int, default=100_000, help="100000 unless given")
+    parser.add_argument("runs", metavar="RUNS", nargs="?", type=host.positive, default=100_000, help="100000 unless given")
     parser.add_argument("seed", metavar="SEED", nargs="?", type=int, default=1, help="1 unless given")
     return parser.parse_args()
 

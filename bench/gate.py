@@ -13,8 +13,8 @@ import subprocess
 import sys
 import time
 from collections import defaultdict
-from collections.abc import Iterator, Sequence, Set
-from dataclasses import dataclass
+from collections.abc import Callable, Iterator, Sequence, Set
+from dataclasses import dataclass, field
 from pathlib import Path
 
 import host
@@ -23,7 +23,7 @@ from host import TOP
 TICKS = os.sysconf("SC_CLK_TCK")
 KINDS = ("proof", "tests", "first", "edits", "built")
 STARTED = 19
-"""The place among a process's fields of when it was started. With its number that names it, as the system uses numbers again."""
+"""The index in `fields` of a process's start time. Process numbers are reused; number and start time together name a process."""
 
 
 @dataclass(frozen=True)
@@ -75,26 +75,41 @@ def is_checker(words: Sequence[str]) -> bool:
     return Path(words[0]).name == "rattle" and "--crate-name" in words
 
 
+@dataclass
+class Watched:
+    """What was seen of the checker: the work of each process, the crates whose edits have begun, and the processor seconds by
+    work and process."""
+
+    works: dict[str, Work] = field(default_factory=dict)
+    begun: set[str] = field(default_factory=set)
+    spent: dict[tuple[Work, str], float] = field(default_factory=dict)
+
+    def look(self, pid: str, found: Sequence[str], words_of: Callable[[str], Sequence[str]]) -> None:
+        """Counts a process of these fields. `words_of` gives the words of a checker's process below the gate, of others none."""
+        process = f"{pid} {found[STARTED]}"
+        if process not in self.works and (words := words_of(pid)):
+            self.works[process] = kind_of(words, self.begun)
+            if self.works[process].kind == "first":
+                self.begun.add(self.works[process].crate)
+        if process in self.works:
+            key = self.works[process], process
+            self.spent[key] = max(self.spent.get(key, 0.0), seconds(found))
+
+
 def watch(gate: subprocess.Popen[bytes]) -> dict[tuple[Work, str], float]:
     """Looks at the processes of the checker until the gate has ended: their processor seconds, by work and process."""
-    works: dict[str, Work] = {}
-    begun: set[str] = set()
-    spent: dict[tuple[Work, str], float] = {}
+
+    def words_of(pid: str) -> Sequence[str]:
+        words = read(f"/proc/{pid}/cmdline").split("\0")
+        return words if is_checker(words) and is_below(pid, gate.pid) else []
+
+    watched = Watched()
     while gate.poll() is None:
         for pid in filter(str.isdigit, os.listdir("/proc")):
-            if len(found := fields(pid)) <= STARTED:
-                continue
-            process = f"{pid} {found[STARTED]}"
-            words = read(f"/proc/{pid}/cmdline").split("\0") if process not in works else []
-            if words and is_checker(words) and is_below(pid, gate.pid):
-                works[process] = kind_of(words, begun)
-                if works[process].kind == "first":
-                    begun.add(works[process].crate)
-            if process in works:
-                key = works[process], process
-                spent[key] = max(spent.get(key, 0.0), seconds(found))
+            if len(found := fields(pid)) > STARTED:
+                watched.look(pid, found, words_of)
         time.sleep(0.5)
-    return spent
+    return watched.spent
 
 
 def minutes_of(spent: dict[tuple[Work, str], float]) -> dict[str, dict[str, float]]:

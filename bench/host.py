@@ -21,6 +21,9 @@ from guests import EXIT, image
 TOP = Path(__file__).resolve().parent.parent
 PROGRAM = TOP / "crates/aprof/out/aprof"
 
+# For musl_library, which is with the other scripts.
+sys.path.append(str(TOP / "scripts"))
+
 Word = str | Path
 
 
@@ -94,7 +97,7 @@ def memory(pid: int) -> int:
 
 def watch(child: subprocess.Popen[bytes], every: float, longest: float) -> tuple[resource.struct_rusage, int]:
     """Waits for a child, and looks at its memory at this interval; with 0, the memory is what the kernel tells at the end. A
-    child that is looked at after its longest time is killed."""
+    child that still runs after `longest` seconds is killed at the next look."""
     most, last = 0, time.monotonic() + longest
     while True:
         pid, status, usage = os.wait4(child.pid, os.WNOHANG if every else 0)
@@ -111,9 +114,9 @@ def run(
     command: Sequence[Word], *, folder: Path | None = None, stderr: int | IO[bytes] | None = None, every: float = 0.0,
     before: Callable[[], object] | None = None, longest: float = inf,
 ) -> Ended:
-    """Runs a command without its standard output, after the child has called `before`. Its memory is looked at `every` so
-    many seconds, and it is killed after `longest`; with 0 there is no such look, and the memory is the kernel's figure, which
-    also counts what this script had when it started the command."""
+    """Runs a command without its standard output, after the child has called `before`. Its memory is read every `every`
+    seconds, and it is killed after `longest` seconds. With `every` 0 neither is done, and the memory is the kernel's figure,
+    which also counts what this script had when it started the command."""
     began = time.monotonic()
     child = subprocess.Popen(command, cwd=folder, stdout=subprocess.DEVNULL, stderr=stderr, preexec_fn=before)
     usage, most = watch(child, every, longest)
@@ -166,9 +169,9 @@ class Bench:
     folder: Path
     command: Sequence[str] = RUN
 
-    def words(self, guest: bytes, options: Sequence[str] = ()) -> list[Word]:
-        """The command line of a run, before which no report is there. Its standard input is of 1 MiB, as much as any guest
-        reads."""
+    def prepared(self, guest: bytes, options: Sequence[str] = ()) -> list[Word]:
+        """Prepares a run, without an earlier report, and returns its command line. Its standard input is of 1 MiB, as much as
+        any guest reads."""
         stdin, report, file = (self.folder / name for name in ("stdin", "report", "guest"))
         report.unlink(missing_ok=True)
         file.write_bytes(guest)
@@ -185,13 +188,13 @@ class Bench:
 
     def refuses(self, options: Sequence[str]) -> bool:
         """Whether the program refuses these options, for a guest that ends at once."""
-        return subprocess.run(self.words(image(EXIT), options), capture_output=True).returncode != 0
+        return subprocess.run(self.prepared(image(EXIT), options), capture_output=True).returncode != 0
 
     def seconds(self, guest: bytes) -> float:
         """The clock's seconds of a run."""
-        return seconds(self.words(guest))
+        return seconds(self.prepared(guest))
 
     def cost(self, guest: bytes, options: Sequence[str] = ()) -> Cost:
         """The cost of a run, with the program's start."""
-        host = instructions(self.words(guest, options))
+        host = instructions(self.prepared(guest, options))
         return Cost(self.steps(), host)

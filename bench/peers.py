@@ -7,7 +7,6 @@ greatest; and in how many turns aprof took less of the processor than callgrind.
 of a source that does nothing is taken off. --only leaves out the others; the names are host, callgrind, aprof and qemu."""
 from __future__ import annotations
 
-import argparse
 import re
 import shutil
 import statistics
@@ -85,7 +84,7 @@ def chosen(found: Commands, only: Sequence[str]) -> Commands:
     """Those of the commands that are named, or all where none is."""
     for name in only:
         if NAMES[name] not in found:
-            raise SystemExit(f"bench/peers.py: no {name} here")
+            raise SystemExit(f"{host.script()}: no {name} here")
     names = [NAMES[name] for name in only] or list(found)
     return {name: words for name, words in found.items() if name in names}
 
@@ -94,7 +93,7 @@ def first_number(pattern: str, file: Path) -> int:
     """The number that the pattern finds in a file."""
     found = re.search(pattern, file.read_text())
     if found is None:
-        raise SystemExit(f"bench/peers.py: nothing in {file} is like {pattern}")
+        raise SystemExit(f"{host.script()}: nothing in {file} is like {pattern}")
     return int(found[1])
 
 
@@ -112,7 +111,7 @@ def run(words: Sequence[Word], folder: Path) -> Ended:
     """Runs a command that has to end with status 0."""
     ended = host.run(words, folder=folder, stderr=subprocess.DEVNULL)
     if ended.status:
-        raise SystemExit(f"bench/peers.py: {words[0]} ended with status {ended.status}")
+        raise SystemExit(f"{host.script()}: {words[0]} ended with status {ended.status}")
     return ended
 
 
@@ -165,18 +164,10 @@ def compare(program: Path, folder: Path, runs: int, only: Sequence[str]) -> None
         print(f"\naprof took less of the processor than callgrind in {less} of {runs} pairs")
 
 
-def number(word: str) -> int:
-    """A number of runs, for a parser."""
-    found = int(word)
-    if found < 1:
-        raise argparse.ArgumentTypeError("at least one run is needed")
-    return found
-
-
 def main() -> None:
     """Compares in a folder that is removed."""
     parser = host.parser(__doc__)
-    parser.add_argument("--runs", type=number, default=3, metavar="N", help="how many runs of each; 3 unless given")
+    parser.add_argument("--runs", type=host.positive, default=3, metavar="N", help="how many runs of each; 3 unless given")
     names = ", ".join(NAMES)
     parser.add_argument("--only", nargs="+", choices=NAMES, default=[], metavar="NAME", help=f"only these: {names}")
     host.add_program(parser)

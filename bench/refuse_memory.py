@@ -172,8 +172,8 @@ def options_of() -> argparse.Namespace:
     """The words of the command line."""
     parser = host.parser(__doc__)
     parser.add_argument("program", metavar="PROGRAM", type=host.program, help="the built aprof")
-    parser.add_argument("first", metavar="FIRST", nargs="?", type=host.positive, default=1, help="first refused; 1 unless given")
-    parser.add_argument("step", metavar="STEP", nargs="?", type=host.positive, default=1, help="to the next one; 1 unless given")
+    parser.add_argument("first", metavar="FIRST", nargs="?", type=host.positive, default=1, help="the first allocation to refuse; 1 unless given")
+    parser.add_argument("step", metavar="STEP", nargs="?", type=host.positive, default=1, help="refuse each STEPth from there on; 1 unless given")
     return parser.parse_args()
 
 

@@ -1,9 +1,9 @@
 #!/usr/bin/env python3
 """bench/run.py [PROGRAM]: times the built program on guests of its own, each at two lengths of run, and prints the steps,
 the seconds, the nanoseconds for a step, and how these compare with the first guest's. Growth with the length of a run shows
-as a second ratio above the first. Each figure is the least of three runs.
+as a second ratio above the first. Each time is the least of three runs.
 
-bench/run.py --long [PROGRAM] times runs of some 100 million steps, with the most memory of each.
+bench/run.py --long [PROGRAM] times one run each of some 100 million steps, and tells its most memory.
 
 bench/run.py --host [PROGRAM] counts the host's instructions for one of the guest's in place of time: by callgrind, as the
 difference of two lengths of run, so that neither the start of the program nor the machine's load changes the figure;
@@ -172,9 +172,9 @@ def long_runs(bench: Bench) -> None:
     print("| Guest | Steps | Seconds | ns a step | Memory |")
     print("|---|---|---|---|---|")
     for guest in LONG:
-        ended = host.run(bench.words(image(guest.make(guest.steps))), every=0.02)
+        ended = host.run(bench.prepared(image(guest.make(guest.steps))), every=0.02)
         if ended.status:
-            raise SystemExit(f"bench/run.py: {guest.name} ended with status {ended.status}")
+            raise SystemExit(f"{host.script()}: {guest.name} ended with status {ended.status}")
         made = bench.steps()
         times = f"{ended.clock:.1f} | {ended.clock / made * 1e9:.0f}"
         print(f"| {guest.name} | {made} | {times} | {ended.memory / 1024:.1f} MiB |", flush=True)

@@ -10,6 +10,10 @@ fi
 here=$(dirname "$(readlink -f "$0")")
 . "$here/musl/debian.sh"
 own_library=$(library_of "$here/musl")/lib/libgcc.a
+# In a copy of the package's examples it is the package's library.
+if [ ! -e "$own_library" ] && cc=$(command -v aprof-cc); then
+  own_library=$(library_of "$(dirname "$(readlink -f "$cc")")")/lib/libgcc.a
+fi
 [ -e "$own_library" ] || own_library=
 clang --target=riscv32 -march=rv32ima -mabi=ilp32 -static -nostdlib -ffreestanding -fuse-ld=lld \
   -O1 -fno-inline -fno-builtin -fno-optimize-sibling-calls -fno-unroll-loops -Wall -Wextra -I "$here" \

@@ -50,8 +50,9 @@ Priority: optional
 Description: proved input-sensitive profiler
  aprof runs a static RV32IMA Linux executable instruction by instruction, and
  stores a report of how the cost of each of its routines grows with the input
- that the routine really read. `aprof show` shows it. One run tells which
- routine of a program is quadratic, and counts are the same in each run.
+ that the routine really read. `aprof show` shows it. A run that calls a
+ routine on inputs of several sizes tells whether it is quadratic, and counts
+ are the same in each run.
 """
 
 COPYRIGHT = """aprof {version}, of commit {commit}. Its sources name no license.

@@ -36,7 +36,7 @@ def ignored() -> tuple[str, ...]:
 
 
 def is_source(path: Path) -> bool:
-    """Whether no pattern of .gitignore is of a file or a folder; one with a slash is of the path, another one of the name."""
+    """Whether no pattern of .gitignore matches: one with a slash is compared with the path, another one with the name."""
     whole = path.relative_to(TOP).as_posix()
     return not any(fnmatch(whole if "/" in pattern else path.name, pattern.lstrip("/")) for pattern in ignored())
 
@@ -209,6 +209,7 @@ def mistakes() -> Iterator[str]:
         text, name = text_of(document), document.relative_to(TOP)
         yield from (f"{name}: `{span}` is no name of the sources" for span in unknown_names(text))
         yield from (f"{name}: no file {path}" for path in missing_files(text))
+        yield from (f"{name}: {place} is to be filled in" for place in re.findall(r"@[A-Z]+@", text))
     yield from (f"docs/PROOFS.md: {mistake}" for mistake in unknown_clauses(text_of(TOP / "docs/PROOFS.md")))
     definitions = text_of(TOP / "docs/DEFINITIONS.md")
     yield from (f"docs/DEFINITIONS.md: does not name {file}" for file in unnamed(headline_files(CRATES), definitions))

@@ -8,10 +8,8 @@ from collections.abc import Sequence
 from pathlib import Path
 
 import host
-from host import TOP
+from musl_library import MUSL, library
 from real.recipes import Recipe
-
-MUSL = TOP / "examples" / "musl"
 
 FETCH = """
 . "$1"
@@ -33,12 +31,6 @@ again."""
 
 class LeftOut(Exception):
     """A program that can't be fetched, built or run, with the reason."""
-
-
-def library() -> Path:
-    """The folder of the C library, as debian.sh decides it for the scripts of examples/musl."""
-    words = ["bash", "-c", '. "$1/debian.sh"; library_of "$1"', "library", str(MUSL)]
-    return Path(subprocess.run(words, stdout=subprocess.PIPE, text=True, check=True).stdout.removesuffix("\n"))
 
 
 def compiler() -> Path:
@@ -89,7 +81,7 @@ def build(recipe: Recipe, sources: Path, guests: Path) -> Path:
     shutil.rmtree(work, ignore_errors=True)
     shutil.copytree(source, work, symlinks=True)
     names = {"CC": str(compiler()), "GUEST": str(guest), "DRIVERS": str(Path(__file__).parent / "drivers")}
-    names["APROF_MUSL"] = str(library())  # a relative path would be of the copy
+    names["APROF_MUSL"] = str(library())  # absolute, as the build runs in another folder
     log = guest.with_suffix(".log")
     with log.open("w") as file:
         command = ["bash", "-c", recipe.make]

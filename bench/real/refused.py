@@ -15,7 +15,8 @@ from typing import TYPE_CHECKING
 
 from guests import jal_offset, signed
 from host import TOP
-from real.building import LeftOut, library
+from musl_library import library
+from real.building import LeftOut
 
 if TYPE_CHECKING:
     from real.measuring import GuestBench

@@ -2,7 +2,6 @@
 from __future__ import annotations
 
 import json
-import os
 import struct
 import sys
 import tempfile
@@ -93,12 +92,7 @@ class Refused(unittest.TestCase):
             self.assertEqual(probe.numbers(()), ({291}, ends[1]))
 
 
-class Places(unittest.TestCase):
-    def test_the_library_is_where_the_variable_says(self) -> None:
-        for value, place in (("", building.MUSL / "library"), ("c", Path.cwd() / "c")):
-            with self.subTest(value), mock.patch.dict(os.environ, {"APROF_MUSL": value}):
-                self.assertEqual(building.library(), place)
-
+class Packages(unittest.TestCase):
     def test_a_package_without_its_description(self) -> None:
         with tempfile.TemporaryDirectory() as folder:
             self.assertRaises(building.LeftOut, building.version, RECIPES[0], Path(folder))

@@ -68,7 +68,7 @@ class Words(unittest.TestCase):
         with tempfile.TemporaryDirectory() as made:
             folder = Path(made)
             (folder / "report").touch()
-            words = Bench(Path("aprof"), folder, host.CONTEXTS).words(b"guest", ["--stamps", "8"])
+            words = Bench(Path("aprof"), folder, host.CONTEXTS).prepared(b"guest", ["--stamps", "8"])
             self.assertEqual(words[:4], [Path("aprof"), "contexts", "--stamps", "8"])
             self.assertEqual(words[4:], ["--stdin", folder / "stdin", "-o", folder / "report", folder / "guest"])
             self.assertEqual((folder / "guest").read_bytes(), b"guest")

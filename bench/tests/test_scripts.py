@@ -57,6 +57,16 @@ class Gate(unittest.TestCase):
         self.assertEqual(gate.kind_of(edit, set()), Work("shadow", "first"))
         self.assertEqual(gate.kind_of(edit, {"shadow"}), Work("shadow", "edits"))
 
+    def test_a_number_that_is_used_again(self) -> None:
+        """Two processes of one number are two, by when they were started."""
+        watched = gate.Watched()
+        for started, ticks, crate in ((100, 50, "shadow"), (100, 70, "shadow"), (200, 30, "trace")):
+            found = ["0"] * 19 + [str(started)]
+            found[11] = str(ticks)
+            watched.look("7", found, lambda _: ["rattle", "check", "--crate-name", crate])
+        spent = {work.crate: took * gate.TICKS for (work, _), took in watched.spent.items()}
+        self.assertEqual(spent, {"shadow": 70, "trace": 30})
+
     def test_checker(self) -> None:
         self.assertTrue(gate.is_checker(["/kit/bin/rattle", "check", "--crate-name", "shadow"]))
         self.assertFalse(gate.is_checker(["/kit/bin/rattle", "--version"]) or gate.is_checker([""]))

@@ -32,9 +32,14 @@ make -s -j "${JOBS:-$(nproc)}" install
 cd ..
 llvm-strip --strip-debug libgcc.a made/lib/*.a
 
-# An older library goes only now that the new one is whole. libgcc.a comes first: by it another set-up knows the folder.
-rm -rf "$library/lib" "$library/include"
+# An older library goes only now that the new one is whole. libgcc.a is there all the time: by it another set-up knows the
+# folder. libc.a comes last: by it the compiler knows that the library is whole.
 mkdir -p "$library/lib"
 cp libgcc.a "$library/lib"
-cp -r made/lib made/include "$library"
+rm -rf "$library/lib/libc.a" "$library/include"
+find "$library/lib" -mindepth 1 ! -name libgcc.a -delete
+cp -r made/include "$library"
+mv made/lib/libc.a .
+cp -r made/lib "$library"
+cp libc.a "$library/lib"
 echo "setup.sh: made $library${APROF_MUSL:+; the compilers find it by APROF_MUSL=$library}" >&2

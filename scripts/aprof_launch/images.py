@@ -4,8 +4,8 @@ from __future__ import annotations
 import os
 import struct
 from pathlib import Path
-from shutil import which
 
+from aprof_copy import called
 from aprof_copy.called import launcher
 
 HEAD = b"\x7fELF"
@@ -52,7 +52,7 @@ def why_bad(path: str) -> str:
 
 def compiler() -> str:
     """Where a compiler for such executables is: in the package, or in a clone."""
-    return "aprof-cc" if which("aprof-cc") else "examples/musl/cc"
+    return "aprof-cc" if called.TOP.is_relative_to("/usr") else "examples/musl/cc"
 
 
 def foreign(data: bytes) -> str:

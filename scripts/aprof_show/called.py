@@ -15,6 +15,11 @@ def name() -> str:
     """As it was called: the launcher, which starts it as `aprof show`, says how it was called itself."""
     if "APROF_NAME" in os.environ:
         return f"{called.launcher()} show"
+    return command()
+
+
+def command() -> str:
+    """What a message begins with."""
     return PACKAGED if Path(sys.argv[0]).name == PACKAGED else "show"
 
 

@@ -9,7 +9,7 @@ from aprof_show.terminal import factor_text
 STEEP, MANY, RISING, WEAK = "!", "*", "^", "~"
 MEANINGS = {
     STEEP: "superlinear: faster than n log n, at least at the largest sizes",
-    MANY: "cheap by itself, but called so often that its caller is superlinear",
+    MANY: "called so often that its caller is superlinear",
     RISING: "rises from size to size: steeper than this at larger ones, so watch it",
     WEAK: f"uncertain: few sizes, below {LEAST_LARGEST}, within a factor of 4, or less steep at the end",
 }

@@ -5,6 +5,7 @@ import os
 import sys
 from collections.abc import Iterable
 
+from aprof_show import called
 
 def print_lines(lines: Iterable[str]) -> None:
     """Where the reader has enough, as `head`, the rest is dropped, and the status is still told."""
@@ -21,7 +22,7 @@ def say(text: str) -> None:
     if sys.stderr is None:
         return
     try:
-        print(f"show: {text}", file=sys.stderr, flush=True)
+        print(f"{called.command()}: {text}", file=sys.stderr, flush=True)
     except OSError:
         os.dup2(os.open(os.devnull, os.O_WRONLY), sys.stderr.fileno())
 

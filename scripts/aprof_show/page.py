@@ -13,8 +13,9 @@ from typing import Any
 
 from aprof_show.costs import Cost, chain_texts, contexts_of, costs_of, open_ends
 from aprof_show.ends import ended
-from aprof_show.growth import LEAST_LARGEST, Growth, factor_of, growth_of
+from aprof_show.growth import Growth, factor_of, growth_of
 from aprof_show.joining import points_of
+from aprof_show.marks import MANY, MEANINGS, RISING, STEEP, WEAK
 from aprof_show.model import Context, Point, Profile, Report, Routine
 from aprof_show.output import write_text
 from aprof_show.rows import Row, ordered
@@ -67,7 +68,7 @@ def json_of(profile: Profile, rows: Sequence[Row], lines: Mapping[int, str]) -> 
         "reports": [report_json(report) for report in profile.reports],
         "steps": profile.steps,
         "open": profile.still_open,
-        "leastLargest": LEAST_LARGEST,
+        "meanings": {"steep": MEANINGS[STEEP], "weak": MEANINGS[WEAK], "many": MEANINGS[MANY], "rising": MEANINGS[RISING]},
         "routines": [row_json(row, lines.get(row.routine.entry), places) for row in rows],
         "chains": [chain_texts(context) for context in open_ends(profile.roots or [], costs)],
         "contexts": None if profile.roots is None else contexts_json(profile.roots, costs, rows, places),

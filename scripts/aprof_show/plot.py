@@ -52,7 +52,8 @@ def plot(routine: Routine, room: int) -> list[str]:
     if len(points) < 2:
         return [f"{routine.label}: at most one size other than 0, nothing to draw"]
     braille = can_print("⣿²")
-    left, right = math.log(points[0][0]), math.log(points[-1][0])
+    left = math.log(points[0][0])
+    right = max(math.log(points[-1][0]), left + 1e-9)
     low = math.log(min(cost for _, cost in points))
     high = max(math.log(max(cost for _, cost in points)), low + 0.1)
     axis = max(len(short(math.exp(high))), len(short(math.exp(low))))

@@ -6,10 +6,12 @@ import re
 import subprocess
 import unittest
 from collections.abc import Sequence
+from pathlib import Path
+from unittest import mock
 
-from aprof_launch import tables
+from aprof_copy import called
+from aprof_launch import images, tables
 from aprof_launch.commands import COMMANDS
-from aprof_launch.images import compiler
 from tests.launched import Launched
 from tests.samples import ROOT
 
@@ -157,10 +159,15 @@ class Words(Launched):
         done = self.run_words("replay -o r text", 13, FAKE_TEXT="trace 1")
         self.assertIn("aprof: text is not a trace as `aprof trace` stores it: its first line is another; store it again\n", done.stderr)
 
+    def test_the_compiler_that_is_advised(self) -> None:
+        for top, compiler in ((ROOT, "examples/musl/cc"), (Path("/usr/lib/aprof"), "aprof-cc")):
+            with mock.patch.object(called, "TOP", top):
+                self.assertEqual(images.compiler(), compiler)
+
     def test_files_of_no_use(self) -> None:
         """Images and traces that are empty or cut off, and a text."""
         bubble = (self.folder / "bubble").read_bytes()
-        text = (b"int x;\n", f"it is a text, not an executable: compile it first ({compiler()})\n")
+        text = (b"int x;\n", "it is a text, not an executable: compile it first (examples/musl/cc)\n")
         report = (b"aprof 2\nend exit 0\n", "it is a report, not an executable: `./aprof show` shows it\n")
         trace = (b"aprof trace 1\n", "it is a trace, not an executable: `./aprof replay` makes a report of it\n")
         images = ((b"", "it is empty"), (bubble[:-1], CUT), (bubble[:9], CUT), text, report, trace)

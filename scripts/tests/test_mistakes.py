@@ -1,7 +1,10 @@
 """What is said of mistakes in a command line, with the status 2."""
 from __future__ import annotations
 
+import os
+import sys
 import unittest
+from unittest import mock
 
 from tests.test_command import CACHE, CONTEXTS, WORDS, show
 
@@ -65,6 +68,12 @@ class Mistakes(unittest.TestCase):
         for words, what in MISTAKES:
             with self.subTest(words=words):
                 self.assertIn(what, show(*words, status=2))
+
+    def test_the_command_of_the_package_says_its_name(self) -> None:
+        with mock.patch.object(sys, "argv", ["/usr/bin/aprof-show"]), mock.patch.dict(os.environ):
+            os.environ.pop("APROF_NAME", None)
+            self.assertEqual(show("--alll", WORDS, status=2), "aprof-show: no option --alll; there is --all\n")
+            self.assertIn("`aprof-show --help` lists them", show("--qqqqqq", WORDS, status=2))
 
 
 if __name__ == "__main__":

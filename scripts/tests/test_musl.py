@@ -26,6 +26,17 @@ class Places(unittest.TestCase):
             self.assertEqual((done.returncode, kept.exists()), (1, True))
             self.assertIn("name another folder by APROF_MUSL", done.stderr)
 
+    def test_the_site_of_debian(self) -> None:
+        """It is Debian's, even where another one's packages come first."""
+        lines = "https://download.example/debian bookworm Other\nhttp://mirror/debian bookworm-updates Debian\nhttp://mirror/debian bookworm Debian"
+        with tempfile.TemporaryDirectory() as folder:
+            apt = Path(folder, "apt-get")
+            apt.write_text(f"#!/bin/sh\necho '{lines}'\n")
+            apt.chmod(0o755)
+            command = ["bash", "-c", '. "$1/debian.sh"; site_of_debian', "site", str(MUSL)]
+            path = f"{folder}:{os.environ['PATH']}"
+            self.assertEqual(subprocess.check_output(command, env=os.environ | {"PATH": path}, text=True), "http://mirror/debian\n")
+
 
 if __name__ == "__main__":
     unittest.main()

@@ -76,7 +76,7 @@ class Causes(PageCase):
     def test_the_key_has_what_the_page_uses(self) -> None:
         """Each badge of the listed routines, and nothing else."""
         superlinear, uncertain = "superlinear: faster", "uncertain: few sizes"
-        too_often, rising, dash = "cheap by itself", "rises from size", "its growth is unknown"
+        too_often, rising, dash = "called so often", "rises from size", "its growth is unknown"
         made = profiles.Made()
         root = made.context("main", None, profiles.points_of([9000], lambda n: 1e9, calls=1))
         made.context("rises", root, points_of([(size, float(cost)) for size, cost in POSTINGS]))

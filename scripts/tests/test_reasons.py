@@ -101,7 +101,7 @@ class Reasons(unittest.TestCase):
                 profile = profile_of(tree)
                 text = summary(profile, rows_of(profile), Choice(all=True), 80)
                 self.assertEqual(any(line.startswith("*x2.0") and line.endswith(" look_up") for line in text), is_marked)
-                self.assertEqual(any(line.startswith("* cheap by itself") for line in text), is_marked)
+                self.assertEqual(any(line.startswith("* called so often") for line in text), is_marked)
 
     def test_the_culprit_of_the_library(self) -> None:
         """What the C library's line hides is named with its sign, which is explained."""
@@ -112,7 +112,7 @@ class Reasons(unittest.TestCase):
         profile = join([report_of(run.text(contexts=True))])
         text = summary(profile, rows_of(profile), Choice(), 80)
         self.assertIn("marked in the C library: strlen *x2.0 (--library)", text)
-        self.assertTrue(any(line.startswith("* cheap by itself") for line in text))
+        self.assertTrue(any(line.startswith("* called so often") for line in text))
 
     def test_the_caller_of_the_library(self) -> None:
         """What the library's routines cost counts as that of the program's routine that calls them, where one is below."""

@@ -3,16 +3,17 @@ const BOUNDS = { "≥": "at least: a call was still open at the end", "≤": "at
 
 const lookOf = (name) => (cell) => cell.classList.add(name);
 
+const { steep, weak, many, rising } = profile.meanings;
+
 const BADGES = [
-  { has: (r) => r.steep && !r.weak, word: "superlinear", about: "superlinear: faster than n log n, at least at the largest sizes", put: lookOf("steep") },
-  { has: (r) => r.steep && r.weak, word: "superlinear, uncertain", about: "superlinear, but uncertain: few sizes, sizes within a factor of 4, or less steep at the end",
-    put: (cell) => cell.classList.add("steep", "doubt") },
-  { has: (r) => !r.steep && r.weak, word: "uncertain", about: `uncertain: few sizes, sizes below ${profile.leastLargest}, within a factor of 4, or less steep at the end`, put: lookOf("doubt") },
-  { has: (r) => r.many, word: "many calls", about: "cheap by itself, but called so often that its caller is superlinear",
-    put: (cell, number) => { cell.classList.add("many"); number.prepend("∗"); } },
-  { has: (r) => r.rising !== null, word: "rising", about: "rises from size to size: steeper than this at larger ones, so watch it",
-    put: (cell, number) => number.append("↑") },
+  { has: (r) => r.steep && !r.weak, word: "superlinear", about: steep, put: lookOf("steep") },
+  { has: (r) => r.steep && r.weak, word: "superlinear, uncertain", about: `superlinear, but ${weak}`, put: (cell) => cell.classList.add("steep", "doubt") },
+  { has: (r) => !r.steep && r.weak, word: "uncertain", about: weak, put: lookOf("doubt") },
+  { has: (r) => r.many, word: "many calls", about: many, put: (cell, number) => { cell.classList.add("many"); number.prepend("∗"); } },
+  { has: (r) => r.rising !== null, word: "rising", about: rising, put: (cell, number) => number.append("↑") },
 ];
+
+const NO_GROWTH = "at most one input size other than 0, so its growth is unknown";
 
 const badgesOf = (routine) => BADGES.filter(({ has }) => has(routine));
 
@@ -25,7 +26,7 @@ function tellKey(rows) {
     cell.append(number);
     return entry(cell, about);
   });
-  if (rows.some((r) => r.growth === null)) entries.push(entry(make("b", "", MINUS), "only one input size, so its growth is unknown"));
+  if (rows.some((r) => r.growth === null)) entries.push(entry(make("b", "", MINUS), NO_GROWTH));
   for (const [sign, about] of Object.entries(BOUNDS)) {
     if (rows.some(({ bound }) => bound === sign)) entries.push(entry(make("b", "", sign), about));
   }

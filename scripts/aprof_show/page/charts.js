@@ -7,7 +7,7 @@ const SERIES = [
 const PARTS = ["own", "thread", "kernel"];
 const figure = { points: null, log: true, anchor: null, hidden: new Set(), charts: [] };
 
-// a column of what the axes have a place for: on logarithmic ones not the calls that read nothing
+// the part of a column that the axes can show: logarithmic ones leave out calls that read nothing
 const drawnOf = (points, column) => column.subarray(figure.log ? firstFrom(points.size, 1) : 0);
 const greatest = (column) => column.reduce((a, b) => Math.max(a, b), 1);
 
@@ -85,7 +85,7 @@ function series(points, drawn, look) {
     mean: { pointStyle: "line", borderColor: look.ink, borderWidth: 1.5, radius: radius - 0.2 },
     most: { pointStyle: "circle", borderColor: look.accent, backgroundColor: look.accent, borderWidth: 0, radius },
   };
-  // where all calls cost the same the three are one point, if it is the same one that a column of pixels has of each
+  // a point is drawn once, in the topmost series, if its calls cost the same and its column of pixels shows that same point in each
   const top = SERIES.findLast(({ key }) => !figure.hidden.has(key))?.key;
   const differs = (i, k) => points.least[i] < points.most[i] || i !== drawn[top]?.[k];
   return SERIES.map(({ key }) => ({

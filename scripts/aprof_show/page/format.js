@@ -16,7 +16,7 @@ function short(value) {
   return count(value);
 }
 
-// with the sign of a bound before it: what is at least a little is not below 0.1
+// with the sign of a bound: a part that is at least this small may be larger, so not `<0.1`
 function percent(part, bound = "") {
   if (part === null || part === undefined) return MINUS;
   if (part > 0 && part < 0.001) return bound ? `${bound}0.0` : "<0.1";

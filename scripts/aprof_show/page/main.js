@@ -27,12 +27,13 @@ function tellCounts() {
     byId(`${which}-count`).textContent = count(amount(which));
     byId(which).parentElement.hidden = amount(which) === 0;
   }
+  byId("cheap").parentElement.title = byId("cheap-about").textContent;
   const listed = routines.some((r) => !r.cheap && !r.library);
   if (!listed) byId("library").checked = true;
   if (!routines.some((r) => !r.cheap)) byId("cheap").checked = true;
 }
 
-// shows the routine that the address names, or else that which the page opens with
+// shows the routine that the address names, or else the one that the page opened with
 function follow() {
   const found = /^#routine=(.*)$/.exec(location.hash);
   let word = null;
@@ -48,7 +49,7 @@ function follow() {
   const focused = document.activeElement;
   showRoutine(routine);
   markRow();
-  // a link or a row that told of the routine before is gone or hidden, and the focus would be nowhere
+  // the focused link or row may be gone or hidden now, and the focus would be lost
   if (!focused.getClientRects().length) byId("detail").focus({ preventScroll: true });
 }
 

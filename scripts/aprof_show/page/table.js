@@ -34,7 +34,7 @@ function picture(routine) {
 function growthText(growth) {
   if (growth !== null && growth !== undefined) return document.createTextNode(times(growth));
   const dash = make("span", "faint", MINUS);
-  dash.title = growth === null ? "only one input size, so its growth is unknown" : "not known for calls along this path";
+  dash.title = growth === null ? NO_GROWTH : "not known for calls along this path";
   return dash;
 }
 
