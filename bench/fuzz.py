@@ -3,8 +3,8 @@
 of them unless RUNS says otherwise: the built guests of examples/ and the smallest guest, with fields of the file header, of
 program and section headers and of symbols changed, bytes changed or left out, and headers written over others. Each run has
 to end by a status of the table, at most 2 seconds after it began and in at most 300 MiB. It prints how often each status
-came, the slowest run and the greatest memory, and keeps each file that broke a rule in a folder that it names. Its own
-status is then 1."""
+came, the slowest run and the greatest memory that was seen (it is read every 2 ms), and keeps each file that broke a rule in a
+folder that it names. Its own status is then 1."""
 from __future__ import annotations
 
 import argparse
