@@ -136,7 +136,7 @@ def check_page(path: str, inputs: Iterable[str], image: str | None) -> None:
     if head.startswith(b"aprof ") or any(os.path.samefile(path, one) for one in inputs):
         raise Refused(f"{path} is a report, and is not overwritten: {PAGE_WORDS}")
     if head.strip() and PAGE_MARK not in head:
-        raise Refused(f"{path} is no page of `{called.name()}`, and is not overwritten: {PAGE_WORDS}")
+        raise Refused(f"{path} is no page of aprof, and is not overwritten: {PAGE_WORDS}")
 
 
 def named(routines: Collection[Routine], name: str) -> list[Routine]:

@@ -87,7 +87,7 @@ class Refusals(unittest.TestCase):
                 foreign = Path(folder, name)
                 foreign.write_text(text)
                 said = show("--page", str(foreign), str(report), status=2)
-                self.assertEqual(said, f"show: {foreign} is no page of `show`, and is not overwritten: --page FILE REPORT...\n")
+                self.assertEqual(said, f"show: {foreign} is no page of aprof, and is not overwritten: --page FILE REPORT...\n")
                 self.assertEqual(foreign.read_text(), text)
             empty.touch()
             for new in (page, empty, Path(folder, "new.html")):
