@@ -49,6 +49,7 @@ class Causes(PageCase):
     def test_a_cause_that_never_returned_is_open(self) -> None:
         self.open(never_returned(), f"#routine={ADDRESSES['main']:x}")
         self.assertEqual(self.ask(text_of("#cause")), "100.0 % of its cost so far is in parse with its callees, still open.")
+        self.assertEqual(str(self.ask(f"{CALLEES}[0][1]")), "open")
 
     def test_the_culprit_is_marked(self) -> None:
         """In the list of all routines and in that of what is called, and an indirect way is told."""

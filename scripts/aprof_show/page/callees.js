@@ -47,7 +47,7 @@ function tellCallees(routine) {
   const whole = Math.max(outerCost(contexts.routine.flatMap((one, i) => (one === routine.index ? [i] : []))), 1);
   const culprit = routine.cause && routines[routine.cause.way];
   byId("callees").tBodies[0].replaceChildren(...all.slice(0, MOST_CALLEES).map((callee) => make("tr", callee.routine === culprit ? "culprit" : "",
-    make("td", "number", partCell(callee.cost / whole)), make("td", "number", count(callee.calls)),
+    make("td", "number", partCell(callee.cost / whole)), make("td", "number", callsText(callee.calls, count)),
     make("td", "number", growthText(callee.growth)), make("td", "name", nameLink(callee.routine)))));
   const left = all.length - MOST_CALLEES;
   byId("callees").tFoot.hidden = left <= 0;

@@ -8,11 +8,14 @@ const sizesText = (routine) => {
   return first === last ? short(first) : `${short(first)}–${short(last)}`;
 };
 
+// how many calls returned, if any did
+const callsText = (calls, text) => (calls ? document.createTextNode(text(calls)) : make("span", "faint", "open"));
+
 const COLUMNS = [
   { key: "growth", name: "Growth", about: "how many times the cost grows where the size doubles", value: (r) => r.ahead ?? -1, cell: growthCell },
   { key: "share", name: "With callees\u00a0%", about: "its part of all instructions, with its callees", value: (r) => r.share, cell: (r) => partCell(r.share, r.bound) },
   { key: "self", name: "Its\u00a0own\u00a0%", about: "its own part of all instructions, without its callees", value: (r) => r.self, cell: (r) => partCell(r.self), needs: profile.contexts !== null },
-  { key: "calls", name: "Calls", about: "calls that returned", value: (r) => r.calls, cell: (r) => (r.calls ? document.createTextNode(short(r.calls)) : make("span", "faint", "open")) },
+  { key: "calls", name: "Calls", about: "calls that returned", value: (r) => r.calls, cell: (r) => callsText(r.calls, short) },
   { key: "sizes", name: "Sizes", about: "the least and the greatest input size, in words", value: (r) => (r.sizes ? r.sizes[1] : -1), cell: (r) => document.createTextNode(sizesText(r)) },
   { key: "name", name: "Routine", about: "", text: true, value: (r) => r.name.toLowerCase(), cell: nameCell },
 ].filter((one) => one.needs !== false);
