@@ -33,6 +33,12 @@ LEAST_LARGEST = 16
 LEAST_RATIO = 2
 """No estimate is made from sizes within this factor."""
 
+ENOUGH_SIZES = 4
+"""A growth of fewer sizes is uncertain."""
+
+FAR_APART = 4
+"""A growth of sizes within this factor is uncertain, and the slope at the largest sizes is one between sizes this far apart."""
+
 LINEAR = 0.85
 """From this exponent on a growth counts as linear."""
 
@@ -165,17 +171,17 @@ def growth_by(spots: list[Spot], smooth: bool) -> Growth | None:
 
 
 def weakness(sizes: int, ratio: float) -> str | None:
-    if sizes < 4:
+    if sizes < ENOUGH_SIZES:
         return f"{sizes} sizes"
-    if ratio < 4:
-        return "sizes within a factor of 4"
+    if ratio < FAR_APART:
+        return f"sizes within a factor of {FAR_APART}"
     return None
 
 
 def without_smallest(spots: list[Spot]) -> list[Spot]:
     """The sizes above 3, where these are enough: below, a word more or less is a doubling."""
     large = [spot for spot in spots if spot[0] >= 4]
-    return large if len(large) >= 3 and large[-1][0] >= 4 * large[0][0] else spots
+    return large if len(large) >= 3 and large[-1][0] >= FAR_APART * large[0][0] else spots
 
 
 def top_slope(spots: Sequence[Spot]) -> float:
@@ -184,7 +190,7 @@ def top_slope(spots: Sequence[Spot]) -> float:
     if len(windows) == 1:
         return slope_between(spots[0], spots[-1])
     last = windows[-1]
-    far = [spot for spot in windows if 4 * spot[0] <= last[0]]
+    far = [spot for spot in windows if FAR_APART * spot[0] <= last[0]]
     return slope_between(far[-1] if far else windows[0], last)
 
 

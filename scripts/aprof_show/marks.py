@@ -3,7 +3,7 @@ from __future__ import annotations
 
 from collections.abc import Iterable
 
-from aprof_show.growth import LEAST_LARGEST, Growth
+from aprof_show.growth import FAR_APART, LEAST_LARGEST, Growth
 from aprof_show.terminal import factor_text
 
 STEEP, MANY, RISING, WEAK = "!", "*", "^", "~"
@@ -11,7 +11,7 @@ MEANINGS = {
     STEEP: "superlinear: faster than n log n, at least at the largest sizes",
     MANY: "called so often that its caller is superlinear",
     RISING: "rises from size to size: steeper than this at larger ones, so watch it",
-    WEAK: f"uncertain: few sizes, below {LEAST_LARGEST}, within a factor of 4, or less steep at the end",
+    WEAK: f"uncertain: few sizes, below {LEAST_LARGEST}, within a factor of {FAR_APART}, or less steep at the end",
 }
 
 
