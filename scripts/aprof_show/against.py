@@ -1,11 +1,13 @@
 """Two profiles of one program, before and after a change."""
 from __future__ import annotations
 
-from collections.abc import Collection, Sequence
+from collections import Counter
+from collections.abc import Collection, Iterator, Mapping, Sequence
 from dataclasses import dataclass
 
 from aprof_show.growth import Growth, growth_of
-from aprof_show.joining import add_points
+from aprof_show.joining import Key, add_points, at_one_place
+from aprof_show.library import library_text
 from aprof_show.marks import legend, marked
 from aprof_show.model import Routine
 from aprof_show.rows import Row
@@ -37,23 +39,33 @@ class Pair:
 
 
 def paired(old: Sequence[Row], new: Sequence[Row]) -> list[Pair]:
-    """By name, routines of one name in their order. Routines without a name aren't paired: another image has other addresses."""
-    left = {key: row for key, row in keyed(old)}
-    pairs = [Pair(left.pop(key, None), row) for key, row in keyed(new)]
+    """By name. Several routines of one name, static functions, are paired by their address in one image; in two, by their order
+    if each has as many. Routines without a name aren't paired: another image has other addresses."""
+    before, after = ([(row.routine.entry, row.routine.name) for row in rows] for rows in (old, new))
+    one_image = at_one_place([[place for place in places if place[1]] for places in (before, after)])
+    counts = [Counter(name for _, name in places) for places in (before, after)]
+    numbers = {name: {count[name] for count in counts} - {0} for name in counts[0] | counts[1]}
+    left = dict(keyed(old, numbers, one_image))
+    pairs = [Pair(left.pop(key, None), row) for key, row in keyed(new, numbers, one_image)]
     return pairs + [Pair(row, None) for row in left.values()]
 
 
-def keyed(rows: Sequence[Row]) -> list[tuple[tuple[object, ...], Row]]:
-    seen: dict[str, int] = {}
-    keys: list[tuple[tuple[object, ...], Row]] = []
+def keyed(rows: Sequence[Row], numbers: Mapping[str | None, set[int]], one_image: bool) -> Iterator[tuple[Key, Row]]:
+    """`numbers` says how many routines have a name: two numbers where the old ones and the new ones differ in it."""
+    seen: Counter[str] = Counter()
     for row in rows:
         name = row.routine.name
         if name is None:
-            keys.append(((id(row),), row))
-            continue
-        seen[name] = seen.get(name, 0) + 1
-        keys.append(((name, seen[name]), row))
-    return keys
+            yield (id(row),), row
+        elif numbers[name] == {1}:
+            yield (name,), row
+        elif one_image:
+            yield (name, row.routine.entry), row
+        elif len(numbers[name]) > 1:
+            yield (id(row),), row
+        else:
+            yield (name, seen[name]), row
+            seen[name] += 1
 
 
 def change(pair: Pair, steps: tuple[int, int]) -> float:
@@ -66,7 +78,7 @@ def change(pair: Pair, steps: tuple[int, int]) -> float:
 @dataclass(frozen=True)
 class Compared:
     """Which pairs are told, the largest change first, and how many are not: those that changed less, and those that didn't.
-    `library` are the C library's routines that changed, as they are now."""
+    `library` are the libraries' routines that changed, as they are now."""
 
     told: list[Pair]
     less: int
@@ -109,11 +121,14 @@ def against_text(
     lines += legend([*growths, *signs_of(marked_of(library)[:NAMED])])
     if any(pair.between() for pair in found.told):
         lines.append("a growth behind `-` is that from the one call before to the one call now")
+    if any(pair.old is None or pair.new is None for pair in found.told):
+        lines.append("`.` not there: not called, inlined, or not to be told from others of its name")
     if found.less:
         lines.append(f"and {plural(found.less, 'routine')} that changed less: a greater --top")
     if found.same:
         lines.append(f"{plural(found.same, 'routine')} of the same growth, share and cost")
-    return lines + marked_lines(library, "in the C library now", "--library", room)
+    where = f"in the {library_text(row.routine for row in library)} now"
+    return lines + marked_lines(library, where, "--library", room)
 
 
 def texts(row: Row | None) -> tuple[str, str, str]:

@@ -1,7 +1,7 @@
 """Where the cost of a routine comes from: the routine below it that has the greatest own cost there.
 
 What is called with a size or two (`strcmp` of short words) doesn't grow by itself: its cost is counted with the next caller that
-has a growth, and it is named only where there is no such caller below the routine. What the C library's routines cost is counted
+has a growth, and it is named only where there is no such caller below the routine. What a library's routines cost is counted
 so too, or else with the program's routine that calls them, as that is what can be mended. What is told of the one that is found is
 its cost with its callees, as everywhere.
 """
@@ -76,7 +76,7 @@ def causes_of(
     library: Collection[Routine] = frozenset(),
 ) -> dict[Routine, Cause]:
     """The cause of each routine of `totals` that has one; these are the routines' costs, calls nested in one another once.
-    `library` has the routines of the C library."""
+    `library` has the libraries' routines."""
     causes = {routine: Cause(found) for routine, found in dearest_below(roots, costs, totals, Bearers(growth_of, library))}
     callers: dict[Routine, set[Routine]] = {}
     for routine, cause in causes.items():

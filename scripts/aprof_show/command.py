@@ -15,7 +15,7 @@ from aprof_show.heading import fault_lines, open_lines
 from aprof_show.inputs import ROUTINE_HINT, joined, name_by_image, read_all
 from aprof_show.joining import CannotJoin, join_caches, tell_alike
 from aprof_show.kinship import many_new, repeated, strange_pair, strangers, without_contexts
-from aprof_show.limits import above, above_text, not_judged, of_one_input, unjudged, unreturned
+from aprof_show.limits import above, above_text, cut_short, not_judged, of_one_input, unjudged, unreturned
 from aprof_show.model import CacheReport, Context, Profile, Report, Routine
 from aprof_show.names import shorten
 from aprof_show.options import choice_of, parser
@@ -177,7 +177,7 @@ def compare(options: argparse.Namespace, new: Profile, names: Sequence[str]) -> 
 
 def judge(profile: Profile, rows: Sequence[Row], options: argparse.Namespace, wanted: set[Routine]) -> int:
     limit, choice = options.fail_above, choice_of(options)
-    warn([*unreturned(profile, wanted), *unjudged(rows, wanted), *of_one_input(profile, rows, wanted, choice)])
+    warn([*cut_short(profile), *unreturned(profile, wanted), *unjudged(rows, wanted), *of_one_input(profile, rows, wanted, choice)])
     found = above(rows, limit, wanted, choice)
     print_lines([*above_text(found, limit), *not_judged(rows, limit, wanted, choice)])
     return 1 if found else 0

@@ -2,11 +2,12 @@
 from __future__ import annotations
 
 from collections import Counter
+from collections.abc import Mapping
 from textwrap import wrap
 
-from aprof_show.costs import chain_of, chain_text, costs_of, open_ends, rest_of
+from aprof_show.costs import Cost, chain_of, chain_text, costs_of, open_ends, rest_of
 from aprof_show.ends import FAULTS
-from aprof_show.model import Profile, Report
+from aprof_show.model import Context, Profile, Report
 from aprof_show.terminal import percent, plural
 
 MOST = 8
@@ -60,10 +61,7 @@ def open_lines(profile: Profile, room: int) -> list[str]:
     lines += wrapped(spent_text(rest_of(profile.steps, costs) / max(profile.steps, 1), len(ends)), room)
     if any(not link.routine.name and not link.routine.shown for context in ends for link in chain_of(context)):
         lines.append("--image IMAGE names the routines that never returned")
-    more = profile.still_open - sum(cost.opens for cost in costs.values())
-    if more > 0:
-        lines += wrapped(f"and {unplaced_text(more)}, so these stacks may go deeper", room)
-    return lines
+    return lines + wrapped(unplaced_text(profile, costs), room)
 
 
 def spent_text(part: float, ends: int) -> str:
@@ -78,8 +76,11 @@ def wrapped(text: str, room: int) -> list[str]:
     return wrap(text, room, subsequent_indent="    ", break_long_words=False)
 
 
-def unplaced_text(calls: int) -> str:
-    """What is said of open calls that no chain has: those whose routine had points there from earlier calls."""
-    if calls == 1:
-        return "1 more open call of a routine that had returned before: the report can't tell where it stands"
-    return f"{calls} more open calls of routines that had returned before: the report can't tell where they stand"
+def unplaced_text(profile: Profile, costs: Mapping[Context, Cost]) -> str:
+    """What is said of open calls that no chain has: their context has a point of another call, or another thread's open one."""
+    more = profile.still_open - sum(cost.opens for cost in costs.values())
+    if more <= 0:
+        return ""
+    returned, others = ("routines that had returned", "other threads") if more > 1 else ("a routine that had returned", "another thread")
+    calls = plural(more, "more open call")
+    return f"and {calls}, of {returned} before or of {others} in the same calls: the report can't tell where they stand"

@@ -8,11 +8,13 @@ of one image, these are called what another report calls them.
 from __future__ import annotations
 
 from collections import Counter
-from collections.abc import Iterable, Sequence
+from collections.abc import Iterable, Iterator, Sequence
 
 from aprof_show.model import CacheReport, CacheRoutine, Context, Point, Profile, Report, Routine, sum_of_parts
 
 Key = tuple[object, ...]
+Listing = Sequence[tuple[int, str | None]]
+"""The address and the name of each routine of a report, in its order."""
 
 
 class CannotJoin(Exception):
@@ -27,7 +29,12 @@ def join(reports: Sequence[Report]) -> Profile:
     one_image = of_one_image(reports)
     if one_image:
         name_unreturned(reports)
-    keys = keys_of(reports, one_image)
+    listings = [[(routine.entry, routine.name) for routine in report.routines] for report in reports]
+    keys = {
+        routine: key
+        for report, found in zip(reports, keys_of(listings, one_image))
+        for routine, key in zip(report.routines, found)
+    }
     joined: dict[Key, Routine] = {}
     sources: dict[Routine, set[str]] = {}
     points: dict[Routine, list[Point]] = {}
@@ -71,19 +78,21 @@ def add_up(one: Point, other: Point) -> Point:
 
 
 def of_one_image(reports: Sequence[Report]) -> bool:
+    return at_one_place([[(r.entry, r.name) for r in report.routines if not is_unnamed(r)] for report in reports])
+
+
+def at_one_place(listings: Sequence[Listing]) -> bool:
     """Whether no address has two names, and names that several reports have are at one address. A few may be at several: static
     functions of one name."""
     names: dict[int, str | None] = {}
     places: dict[str, list[set[int]]] = {}
-    for report in reports:
+    for listing in listings:
         mine: dict[str, set[int]] = {}
-        for routine in report.routines:
-            if is_unnamed(routine):
-                continue
-            if names.setdefault(routine.entry, routine.name) != routine.name:
+        for entry, name in listing:
+            if names.setdefault(entry, name) != name:
                 return False
-            if routine.name:
-                mine.setdefault(routine.name, set()).add(routine.entry)
+            if name:
+                mine.setdefault(name, set()).add(entry)
         for name, entries in mine.items():
             places.setdefault(name, []).append(entries)
     shared = [sets for sets in places.values() if len(sets) > 1]
@@ -105,20 +114,21 @@ def name_unreturned(reports: Sequence[Report]) -> None:
             routine.name = names.get(routine.entry)
 
 
-def keys_of(reports: Sequence[Report], one_image: bool) -> dict[Routine, Key]:
+def keys_of(listings: Sequence[Listing], one_image: bool) -> list[list[Key]]:
     """What is equal for two routines exactly where they are to be joined."""
-    keys: dict[Routine, Key] = {}
-    for place, report in enumerate(reports):
-        seen: Counter[str] = Counter()
-        for routine in report.routines:
-            if one_image:
-                keys[routine] = (routine.entry,)
-            elif routine.name is None:
-                keys[routine] = (place, routine.entry)
-            else:
-                keys[routine] = (routine.name, seen[routine.name])
-                seen[routine.name] += 1
-    return keys
+    return [[*keys_in(listing, place, one_image)] for place, listing in enumerate(listings)]
+
+
+def keys_in(listing: Listing, place: int, one_image: bool) -> Iterator[Key]:
+    seen: Counter[str] = Counter()
+    for entry, name in listing:
+        if one_image:
+            yield (entry,)
+        elif name is None:
+            yield (place, entry)
+        else:
+            yield (name, seen[name])
+            seen[name] += 1
 
 
 def tell_apart(routines: list[Routine], sources: dict[Routine, set[str]]) -> None:
@@ -158,18 +168,19 @@ def join_contexts(reports: Sequence[Report], joined: dict[Routine, Routine]) -> 
 
 
 def join_caches(reports: Sequence[CacheReport]) -> CacheReport:
-    """Accesses and misses added up, by name (routines of one name by their order), and by address where there is none."""
-    sums: dict[tuple[str | int, int], CacheRoutine] = {}
-    for report in reports:
-        seen: Counter[str | int] = Counter()
-        for routine in report.routines:
-            name = routine.name or routine.entry
-            key = name, seen[name]
-            seen[name] += 1
-            there = sums.get(key, CacheRoutine(routine.entry, routine.name, 0, 0))
-            sums[key] = CacheRoutine(
-                there.entry, there.name, there.accesses + routine.accesses, there.misses + routine.misses
-            )
+    """Accesses and misses added up."""
+    listings = [[(routine.entry, routine.name) for routine in report.routines] for report in reports]
+    one_image = at_one_place([[(entry, name) for entry, name in listing if name] for listing in listings])
+    sums: dict[Key, CacheRoutine] = {}
+    for report, keys in zip(reports, keys_of(listings, one_image)):
+        for routine, key in zip(report.routines, keys):
+            there = sums.get(key)
+            sums[key] = add_accesses(there, routine) if there else routine
     ends = {report.end for report in reports}
     end = ends.pop() if len(ends) == 1 else "of several kinds"
     return CacheReport(", ".join(report.path for report in reports), end, sum(r.steps for r in reports), list(sums.values()))
+
+
+def add_accesses(one: CacheRoutine, other: CacheRoutine) -> CacheRoutine:
+    name = one.name or other.name
+    return CacheRoutine(one.entry, name, one.accesses + other.accesses, one.misses + other.misses)

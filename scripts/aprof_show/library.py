@@ -1,13 +1,18 @@
-"""Which routines are of the C library: by the names of musl's functions, and by where the linker puts them."""
+"""Which routines are of the C library, by the names of musl's functions and by where the linker puts them, and which are of the
+C++ library, by what is in `std`: a program's own objects have its templates."""
 from __future__ import annotations
 
-from collections.abc import Sequence
+import re
+from collections.abc import Iterable, Sequence
 from pathlib import Path
 
 from aprof_show.model import Report, Routine
 
 FEWEST = 4
 """So many of the library's names behind one another are no chance: any program with it has its start and its end."""
+
+OF_CXX = re.compile(r"_Z+(N[rVK]*[RO]?S[abdiost]|St|N[rVK]*10__cxxabiv1|nw|na|dl|da)|__cxa_")
+"""How names of the C++ library begin: those in `std` and in `__cxxabiv1`, and `operator new` and `delete`."""
 
 
 def musl_names() -> frozenset[str]:
@@ -16,10 +21,10 @@ def musl_names() -> frozenset[str]:
 
 
 def library_routines(reports: Sequence[Report], routines: Sequence[Routine]) -> set[Routine]:
-    """Those of `routines`, which the reports have joined, that are the library's. None where nothing else would be left."""
+    """Those of `routines`, which the reports have joined, that are the libraries'. None where nothing else would be left."""
     names = musl_names()
     places = {place for report in reports for place in last_of_library(report.routines, names)}
-    found = {routine for routine in routines if (routine.entry, routine.name) in places}
+    found = {routine for routine in routines if (routine.entry, routine.name) in places or is_of_cxx(routine.name)}
     return found if len(found) < len(routines) else set()
 
 
@@ -28,9 +33,18 @@ def last_of_library(routines: Sequence[Routine], names: frozenset[str]) -> list[
     without a name among them, such as the start of a thread, is the library's too."""
     places: list[tuple[int, str | None]] = []
     for routine in sorted(routines, key=lambda routine: -routine.entry):
-        if routine.name is not None and routine.name not in names:
+        if routine.name is not None and routine.name not in names and not is_of_cxx(routine.name):
             break
         places.append((routine.entry, routine.name))
     while places and places[-1][1] is None:
         places.pop()
     return places if sum(name is not None for _, name in places) >= FEWEST else []
+
+
+def is_of_cxx(name: str | None) -> bool:
+    return OF_CXX.match(name or "") is not None
+
+
+def library_text(routines: Iterable[Routine]) -> str:
+    """What the library of these routines is called; that of C++ has the one of C in it."""
+    return "C++ library" if any(is_of_cxx(routine.name) for routine in routines) else "C library"

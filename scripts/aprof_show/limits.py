@@ -6,6 +6,7 @@ from dataclasses import replace
 
 from aprof_show.costs import Cost, costs_of
 from aprof_show.growth import Growth, factor_of
+from aprof_show.library import library_text
 from aprof_show.model import Context, Profile, Report, Routine
 from aprof_show.rows import Row, ordered
 from aprof_show.table import NAMED, Choice, share_text
@@ -46,16 +47,17 @@ def above_limit(growth: Growth, limit: float) -> str:
 
 
 def not_judged(rows: Sequence[Row], limit: float, named: Collection[Routine], choice: Choice) -> list[str]:
-    """What is said of routines whose growth is above the limit, where they don't count: those of the C library, and those whose
+    """What is said of routines whose growth is above the limit, where they don't count: those of a library, and those whose
     growth is uncertain, if they are not cheap."""
     if named:
         return []
     certain = above(rows, limit, named, replace(choice, library=True))
     library = [row for row in certain if row.library and not choice.library]
     loose = [row for row in steeper(rows, limit, choice) if row.uncertain and not row.library and is_dear(row, choice)]
+    of_library = f"{library_text(row.routine for row in library)} routine"
     over = f"above {factor_text(limit)} not counted"
     texts = (
-        f"{plural(len(library), 'C library routine')} {over}: --library" if library else "",
+        f"{plural(len(library), of_library)} {over}: --library" if library else "",
         f"{plural(len(loose), 'routine')} of uncertain growth {over}: give more sizes, or name them" if loose else "",
     )
     return [text for text in texts if text]
@@ -64,6 +66,14 @@ def not_judged(rows: Sequence[Row], limit: float, named: Collection[Routine], ch
 def is_dear(row: Row, choice: Choice) -> bool:
     """Whether its share is such that the table lists it."""
     return row.share >= (0.01 if choice.least is None else choice.least)
+
+
+def cut_short(profile: Profile) -> Iterator[str]:
+    """A warning about runs that did not end as one wants them to: the calls that matter may be missing."""
+    ends = [f"{report.path} ({report.end})" for report in profile.reports if report.end != "exit 0"]
+    if ends:
+        rest = [f"{len(ends) - NAMED} more"] if len(ends) > NAMED else []
+        yield f"{listed([*ends[:NAMED], *rest])} did not end with exit code 0: what is missing there is not judged"
 
 
 def of_one_input(profile: Profile, rows: Sequence[Row], named: Collection[Routine], choice: Choice) -> Iterator[str]:

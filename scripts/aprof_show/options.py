@@ -2,6 +2,7 @@
 from __future__ import annotations
 
 import argparse
+from collections.abc import Sequence
 from difflib import get_close_matches
 from typing import Any, NoReturn
 
@@ -9,7 +10,7 @@ from aprof_show import called
 from aprof_show.marks import MEANINGS
 from aprof_show.rows import ORDERS
 from aprof_show.table import Choice
-from aprof_show.words import Refused
+from aprof_show.words import Refused, is_given
 
 HELP = """Shows what `aprof run`, `replay`, `contexts` and `cache` store, and several reports as
 one longer run.
@@ -35,18 +36,17 @@ if it would be more); `contexts` has the exact part. `+`: at least so much, as a
 had not returned.
 `(62% in look_up, 2496 calls, each about linear)` says where most of a routine's cost
 comes from: the routine below it with the greatest own cost, with the short calls and
-those of the C library that it makes. The part is of the routine's cost, with look_up's
-callees; `through X` where the routine calls X and that leads there. What each call is
-like is told where the points show that it makes the routine superlinear.
+library calls that it makes. The part is of the routine's cost, with look_up's callees;
+`through X` where the routine calls X and that leads there. What each call is like is
+told where the points show that it makes the routine superlinear.
 ESTIMATE is the greatest cost at two and ten times the largest size, by the growth.
 SPREAD is the greatest ratio of costs at one size. POINTS is the number of sizes: a
 report has a point, with its costs, for each. A WORD is the greatest cost divided by
 the size, which is in words of 4 bytes. PLAIN, THREAD and KERNEL are the parts of the
 input that no one else, another thread, or the kernel wrote since the thread last read
 or wrote it.
-Status 0; 1 where --fail-above finds something (uncertain growths and
-routines of the C library count where they are named); 2 for a bad command line,
-report or image."""
+Status 0; 1 where --fail-above finds something (uncertain growths and library routines
+count where they are named); 2 for a bad command line, report or image."""
 
 
 def notes() -> str:
@@ -68,10 +68,20 @@ class Once(argparse.Action):
     """Stores the word behind an option, which is refused where it stands a second time."""
 
     def __call__(self, parser: argparse.ArgumentParser, namespace: argparse.Namespace, value: Any, option: str | None = None) -> None:
-        if getattr(namespace, self.dest) is not None:
+        if is_given(namespace, self.dest):
             hint = ": several old reports go into a folder" if option == "--against" else ""
             raise Refused(f"{option} stands twice{hint}")
         setattr(namespace, self.dest, value)
+
+
+class Flag(Once):
+    """An option without a word behind it."""
+
+    def __init__(self, option_strings: Sequence[str], dest: str, help: str | None = None) -> None:
+        super().__init__(option_strings, dest, nargs=0, default=False, help=help)
+
+    def __call__(self, parser: argparse.ArgumentParser, namespace: argparse.Namespace, value: Any, option: str | None = None) -> None:
+        super().__call__(parser, namespace, True, option)
 
 
 class Parser(argparse.ArgumentParser):
@@ -110,8 +120,8 @@ def parser() -> argparse.ArgumentParser:
     add("--against", metavar="OLD", action=Once, help="compare with this earlier report, or a folder of them")
     above = "status 1 if a growth, or what it rises to (^), exceeds FACTOR and is not marked ~; with --against that of now"
     add("--fail-above", metavar="FACTOR", type=factor, action=Once, help=above)
-    add("--plot", action="store_true", help="a chart of the routine")
-    add("--version", action="store_true", help="the version of aprof")
+    add("--plot", action=Flag, help="a chart of the routine")
+    add("--version", action=Flag, help="the version of aprof")
     add_kinds(result)
     return result
 
@@ -125,11 +135,11 @@ def add_choices(result: argparse.ArgumentParser) -> None:
     )
     order = "sorts by one of these; share: with its callees, self: its own; thread, kernel: the part of the input they wrote"
     add("--routine", metavar="NAME", action="append", default=[], help="this routine alone; may be repeated")
-    add("--all", action="store_true", help="all routines")
+    add("--all", action=Flag, help="all routines")
     add("--min", metavar="PERCENT", type=share, action=Once, help=least)
     add("--top", metavar="N", type=number, action=Once, help="at most N routines")
     add("--by", choices=ORDERS, action=Once, help=order)
-    add("--library", action="store_true", help="routines of the C library too, each in its own line")
+    add("--library", action=Flag, help="routines of the C and the C++ library too, each in its own line")
 
 
 def add_kinds(result: argparse.ArgumentParser) -> None:
@@ -143,7 +153,7 @@ def add_kinds(result: argparse.ArgumentParser) -> None:
         ("--json", "all that is known, as JSON"),
         ("--csv", "all points, as CSV"),
     ):
-        kinds.add_argument(option, action="store_true", help=text)
+        kinds.add_argument(option, action=Flag, help=text)
     kinds.add_argument("--callers", metavar="ROUTINE", action=Once, help="who calls it, and what that costs")
     kinds.add_argument("--page", metavar="FILE", action=Once, help="writes a page for a browser")
 

@@ -14,7 +14,9 @@ from typing import Any
 from aprof_show.costs import Cost, chain_texts, contexts_of, costs_of, open_ends
 from aprof_show.ends import ended
 from aprof_show.growth import Growth, factor_of, growth_of
+from aprof_show.heading import unplaced_text
 from aprof_show.joining import points_of
+from aprof_show.library import library_text
 from aprof_show.marks import MANY, MEANINGS, RISING, STEEP, WEAK
 from aprof_show.model import Context, Point, Profile, Report, Routine
 from aprof_show.output import write_text
@@ -70,6 +72,8 @@ def json_of(profile: Profile, rows: Sequence[Row], lines: Mapping[int, str]) -> 
         "open": profile.still_open,
         "meanings": {"steep": MEANINGS[STEEP], "weak": MEANINGS[WEAK], "many": MEANINGS[MANY], "rising": MEANINGS[RISING]},
         "routines": [row_json(row, lines.get(row.routine.entry), places) for row in rows],
+        "library": library_text(row.routine for row in rows if row.library),
+        "unplaced": unplaced_text(profile, costs) if profile.roots else "",
         "chains": [chain_texts(context) for context in open_ends(profile.roots or [], costs)],
         "contexts": None if profile.roots is None else contexts_json(profile.roots, costs, rows, places),
         "callers": callers_json(profile.roots or [], places),

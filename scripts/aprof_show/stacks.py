@@ -85,7 +85,8 @@ def function_lines(routine: Routine, function: Function, lines: Mapping[int, str
     yield f"{line} {function.own}"
     for callee, calls in function.calls.items():
         callee_file, callee_line = place_of(callee, lines)
-        yield f"cfi={callee_file}"
+        if callee_file != file:
+            yield f"cfi={callee_file}"
         yield f"cfn={callee.label}"
         yield f"calls={calls} {callee_line}"
         yield f"{line} {function.costs[callee]}"

@@ -6,6 +6,7 @@ from dataclasses import dataclass
 
 from aprof_show.causes import Cause
 from aprof_show.heading import head, open_lines, wrapped
+from aprof_show.library import library_text
 from aprof_show.marks import legend, marked
 from aprof_show.model import Point, Profile, Routine
 from aprof_show.reasons import Reason
@@ -169,15 +170,16 @@ def mark(row: Row) -> str:
 
 
 def folded_lines(rows: Sequence[Row], room: int) -> list[str]:
-    """What was left out of the C library. Own costs add up; costs with callees don't, so the largest is told."""
+    """What was left out of the libraries. Own costs add up; costs with callees don't, so the largest is told."""
+    library = library_text(row.routine for row in rows)
     if rows[0].own is not None:
         share = f"their own: {percent(sum(row.own or 0.0 for row in rows))}"
     else:
         inner = [row for row in rows if row.routine.name and "start" not in row.routine.name]
         most = max(inner or rows, key=lambda row: row.share)
         share = f"largest with callees: {cut(most.routine.label, 24)} {percent(most.share)}"
-    text = f"and {plural(len(rows), 'C library routine')} ({share}): --library"
-    return [*wrapped(text, room), *marked_lines(sure_of(rows), "in the C library", "--library", room)]
+    text = f"and {plural(len(rows), f'{library} routine')} ({share}): --library"
+    return [*wrapped(text, room), *marked_lines(sure_of(rows), f"in the {library}", "--library", room)]
 
 
 def sure_of(rows: Sequence[Row]) -> list[Row]:

@@ -8,6 +8,7 @@ from difflib import get_close_matches
 
 from aprof_show import called
 from aprof_show.model import Routine
+from aprof_show.names import brief_of
 
 CHOICE = frozenset({"--all", "--min", "--library", "--top", "--by"})
 
@@ -127,6 +128,8 @@ def taken_by(kind: str) -> str:
 
 def check_page(path: str, inputs: Iterable[str], image: str | None) -> None:
     """A page is written over nothing but an older page."""
+    if path == "-":
+        raise Refused(f"--page wants a file: {PAGE_WORDS}; /dev/stdout is standard output")
     if not os.path.isfile(path):
         return
     if image and os.path.samefile(path, image):
@@ -144,7 +147,8 @@ def named(routines: Collection[Routine], name: str) -> list[Routine]:
     found = [routine for routine in routines if routine.is_called(name)]
     found = found or [routine for routine in routines if routine.is_at(name)]
     if not found:
-        near = nearest(name, [routine.label for routine in routines])
+        meant = [routine.label for routine in routines if routine.shown and brief_of(routine.shown) == name]
+        near = meant or nearest(name, [routine.label for routine in routines])
         there = "; there " + ("is " if len(near) == 1 else "are ") + listed(near) if near else ""
         raise Refused(f"no file and no routine called {name}{there} (--all lists them)")
     return found

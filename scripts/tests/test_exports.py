@@ -53,6 +53,13 @@ class Exports(unittest.TestCase):
                 if cost.own:
                     self.assertRegex(shown.stdout, rf"(?m)^\s*{cost.own:,} \(.*\*\s.*:{routine.name}")
 
+    def test_a_file_is_told_where_it_is_another(self) -> None:
+        """Else callgrind_annotate, in the folder of the sources, takes the file of a call for another one."""
+        profile = profile_of(PLAIN)
+        lines = {ADDRESSES[name]: f"/src/{file}.c:1" for name, file in (("main", "a"), ("parse", "a"), ("leaf", "b"))}
+        text = list(callgrind(profile, roots_of(profile), "image", lines))
+        self.assertEqual([line for line in text if line.startswith("cfi=")], ["cfi=/src/b.c"] * 2)
+
     def test_contexts(self) -> None:
         profile = profile_of(PLAIN)
         self.assertEqual([context.routine.name for context in contexts_of(roots_of(profile))], ["main", "parse", "leaf", "leaf"])

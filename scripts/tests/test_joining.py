@@ -3,12 +3,15 @@ from __future__ import annotations
 
 import random
 import unittest
+from dataclasses import replace
 
+from aprof_show.against import paired
 from aprof_show.costs import contexts_of, costs_by_routine, costs_of
 from aprof_show.heading import head, open_lines
-from aprof_show.joining import join
-from aprof_show.model import Context, Point, Profile, Routine
-from tests.samples import ADDRESSES, Call, Run, random_call, report_of, stored
+from aprof_show.joining import join, join_caches
+from aprof_show.model import CacheReport, Context, Point, Profile, Routine
+from aprof_show.rows import rows_of
+from tests.samples import ADDRESSES, Call, Run, random_call, read_text, report_of, stored
 
 MOVED = {name: address + 4 * (place + 1) for place, (name, address) in enumerate(ADDRESSES.items())}
 
@@ -74,6 +77,26 @@ class Keys(unittest.TestCase):
         labels = self.labels(Run([both], ADDRESSES), Run([second], ADDRESSES))
         self.assertEqual(labels, {"main": 2, "helper (00010180)": 1, "helper (000101c0)": 2})
 
+    def test_statics_before_and_after(self) -> None:
+        """By address in one image; in two by their order, or not at all where one has fewer."""
+        both = Run([Call("main", calls=[Call("helper@1"), Call("helper@2")])], ADDRESSES)
+        second = Run([Call("main", calls=[Call("helper@2")])], ADDRESSES)
+        for old, new, pairs in (
+            (both, second, {("10000", "10000"), ("10180", ""), ("101c0", "101c0")}),
+            (both, replace(both, addresses=MOVED), {("10000", "10004"), ("10180", "1019c"), ("101c0", "101e0")}),
+            (both, replace(second, addresses=MOVED), {("10000", "10004"), ("10180", ""), ("101c0", ""), ("", "101e0")}),
+        ):
+            rows = [rows_of(join([report_of(run.text())])) for run in (old, new)]
+            told = {tuple(f"{row.routine.entry:x}" if row else "" for row in (pair.old, pair.new)) for pair in paired(*rows)}
+            self.assertEqual(told, pairs)
+
+    def test_caches_of_one_image(self) -> None:
+        texts = ("routine 00010180 f\n4 1\nroutine 000101c0 f\n9 2\ndone 2\n", "routine 000101c0 f\n5 3\ndone 1\n")
+        caches = [read_text(f"aprof cache 1\nend exit 0\nsteps 9\n{text}") for text in texts]
+        joined = join_caches([cache for cache in caches if isinstance(cache, CacheReport)])
+        told = [(routine.entry, routine.accesses, routine.misses) for routine in joined.routines]
+        self.assertEqual(told, [(0x10180, 4, 1), (0x101C0, 14, 5)])
+
     def test_without_names(self) -> None:
         call = Call("main", calls=[Call("leaf")])
         stripped = Run([call], ADDRESSES, False)
@@ -124,4 +147,4 @@ class CutOff(unittest.TestCase):
         """The calls of both runs stand in the chain; in each run one more is open, of a routine that had returned there."""
         lines = open_lines(self.joined(self.CUT, self.CUT, self.WHOLE), 200)
         self.assertEqual(lines[0], "open at the end: main > parse")
-        self.assertTrue(lines[-1].startswith("and 2 more open calls of routines"))
+        self.assertTrue(lines[-1].startswith("and 2 more open calls, of routines"))

@@ -30,16 +30,18 @@ class Limits(unittest.TestCase):
         self.assertRegex(show(*paths, "--fail-above", "2.1", status=1), r"^look_up grows x3\.1, above x2\.1 \(")
 
     def test_a_call_that_had_not_returned(self) -> None:
-        """It is warned of a named routine alone, as far as the report tells."""
+        """It is warned of the run, and of a named routine, as far as the report tells."""
         told = "look_up had not returned at the end of {}, so that call is not judged"
         plain = "{} has no call of look_up that returned, and 2 calls that had not: what they cost is not judged"
         for contexts, said in ((True, told), (False, plain)):
             with self.subTest(contexts=contexts):
                 paths = self.paths(contexts, RISING, CUT_OFF)
-                self.assertEqual(warned(*paths, "--fail-above", "9", "--routine", "look_up"), f"show: warning: {said.format(paths[1])}\n")
+                run = f"show: warning: {paths[1]} (budget) did not end with exit code 0: what is missing there is not judged\n"
+                one = f"show: warning: {said.format(paths[1])}\n"
+                self.assertEqual(warned(*paths, "--fail-above", "9", "--routine", "look_up"), run + one)
                 one = "show: warning: parse has at most one size other than 0, so its growth is not known, and not judged\n"
-                self.assertEqual(warned(*paths, "--fail-above", "9", "--routine", "parse"), one)
-                self.assertEqual(warned(*paths, "--fail-above", "9"), "")
+                self.assertEqual(warned(*paths, "--fail-above", "9", "--routine", "parse"), run + one)
+                self.assertEqual(warned(*paths, "--fail-above", "9"), run)
 
     def test_what_is_not_judged(self) -> None:
         """Routines of one size where there is one report, and those of uncertain growth."""

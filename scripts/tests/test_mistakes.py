@@ -60,6 +60,8 @@ MISTAKES: list[tuple[list[str], str]] = [
     (["--against", WORDS, "--against", WORDS, WORDS], "show: --against stands twice: several old reports go into a folder\n"),
     (["--fail-above", "2", WORDS, "--fail-above", "9"], "show: --fail-above stands twice\n"),
     (["--callers", "10070", "--callers", "10070", CONTEXTS], "show: --callers stands twice\n"),
+    (["--all", "--all", WORDS], "show: --all stands twice\n"),
+    (["--page", "-", WORDS], "show: --page wants a file: --page FILE REPORT...; /dev/stdout is standard output\n"),
 ]
 
 

@@ -115,3 +115,12 @@ class Listed(unittest.TestCase):
         self.assertEqual({row.routine.label for row in rows_of(profile) if row.library}, set(names[3:]))
         alone = join([report_of(Run([Call("malloc", calls=calls[3:])], addresses).text())])
         self.assertFalse(any(row.library for row in rows_of(alone)))
+
+    def test_the_library_of_cxx(self) -> None:
+        """What is in `std` is the library's wherever it stands: a program's own objects have its templates."""
+        own = ["main", "_ZN5store3getEi", "_ZN5StoreC2Ev", "_ZN3nowEv", "_ZZ4mainENK3$_0clEv"]
+        library = ["_ZNSt3__16vectorIiE3endEv", "_ZNKSt3__16vectorIiE3endEv", "_ZSt9terminatev", "_Znwj", "_ZdlPv", "__cxa_atexit"]
+        addresses = {name: 0x10000 + 16 * place for place, name in enumerate([*library, *own])}
+        profile = join([report_of(Run([Call("main", calls=list(map(Call, [*library, *own])))], addresses).text())])
+        self.assertEqual({row.routine.name for row in rows_of(profile) if row.library}, set(library))
+        self.assertIn("and 6 C++ library routines", "\n".join(summary(profile, rows_of(profile), Choice(), 80)))

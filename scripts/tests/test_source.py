@@ -10,6 +10,7 @@ from pathlib import Path
 from aprof_show.model import Routine
 from aprof_show.names import brief_of, shorten
 from aprof_show.source import DEMANGLERS, SYMBOLIZERS, BadImage, demangle, lines_of_image, name_routines, read_symbols
+from aprof_show.words import Refused, named
 from tests.samples import ROOT, stored
 
 WORDS = ROOT / "examples/words/words"
@@ -67,8 +68,10 @@ class Names(unittest.TestCase):
             ("(anonymous namespace)::f(int)", "f"),
             ("a::operator->() const", "a::operator->"),
             ("Box<(3>2)>::~Box()", "Box<(3>2)>::~Box()"),
-            ("f(int)::Local::g(char)", "f(int)::Local::g(char)"),
-            ("A::f(int) const::{lambda()#1}::operator()() const", "A::f(int) const::{lambda()#1}::operator()() const"),
+            ("f(int)::Local::g(char)", "f()::Local::g"),
+            ("A::f(int) const::{lambda(int)#1}::operator()(int) const", "A::f()::{lambda#1}::operator()"),
+            ("void sort<A<int>::f() const::{lambda(int)#1}&>(int*, A<int>::f() const::{lambda(int)#1}&)", "sort<>"),
+            ("bool operator< <int>(A<int> const&)", "operator< <>"),
             ("decltype(auto) f<int>()", "decltype(auto) f<int>()"),
         ):
             self.assertEqual(brief_of(name), brief)
@@ -77,6 +80,14 @@ class Names(unittest.TestCase):
         routines = [Routine(1, "_Z3addi", shown="add(int)"), Routine(2, "_Z3addd", shown="add(double)"), Routine(3, "sub")]
         shorten(routines)
         self.assertEqual([routine.label for routine in routines], ["add(int)", "add(double)", "sub"])
+
+    def test_template_arguments_tell_apart(self) -> None:
+        names = ("Queue<Order>::pop()", "Queue<Other>::pop()", "Queue<Order>::~Queue()", "Queue<Order>::~Queue()")
+        routines = [Routine(place, f"_Z{place}", shown=name) for place, name in enumerate(names)]
+        shorten(routines)
+        self.assertEqual([routine.label for routine in routines], ["Queue<Order>::pop", "Queue<Other>::pop", *["Queue<>::~Queue"] * 2])
+        with self.assertRaisesRegex(Refused, "there are Queue<Order>::pop and Queue<Other>::pop "):
+            named(routines, "Queue<>::pop")
 
 
 @unittest.skipUnless(shutil.which("clang") and shutil.which("ld.lld"), "no clang and lld to build an image by")

@@ -101,8 +101,8 @@ class OpenAtTheEnd(unittest.TestCase):
         lines = open_lines(profile, 80)
         self.assertLessEqual(max(map(len, lines)), 80)
         self.assertIn(
-            "and 3 more open calls of routines that had returned before: the report can't tell where they stand, "
-            "so these stacks may go deeper",
+            "and 3 more open calls, of routines that had returned before or of other threads in the same calls: "
+            "the report can't tell where they stand",
             " ".join(line.strip() for line in lines),
         )
 

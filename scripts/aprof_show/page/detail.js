@@ -85,7 +85,7 @@ function showRoutine(routine) {
   figure.anchor = anchorOf(points);
   byId("name").textContent = routine.name;
   byId("place").textContent = [routine.line, routine.entry === routine.name ? null : `at ${routine.entry}`,
-    routine.library ? "C library" : null].filter(Boolean).join(" · ");
+    routine.library ? profile.library : null].filter(Boolean).join(" · ");
   byId("verdict").textContent = verdictOf(routine);
   tellCause(routine);
   tellCallees(routine);

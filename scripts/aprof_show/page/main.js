@@ -18,10 +18,12 @@ function tellHead() {
   byId("open").hidden = !chains.length;
   const told = chains.slice(0, 3).map((chain) => `Still open at the end: ${chain.join(" › ")}`);
   if (chains.length > 3) told.push(`and ${count(chains.length - 3)} more`);
+  if (profile.unplaced) told.push(profile.unplaced);
   byId("open").textContent = told.join("\n");
 }
 
 function tellCounts() {
+  byId("library-name").textContent = profile.library;
   const amount = (which) => routines.filter((routine) => routine[which]).length;
   for (const which of ["cheap", "library"]) {
     byId(`${which}-count`).textContent = count(amount(which));

@@ -119,7 +119,7 @@ function tellListed(word) {
 
 // the marked routines that are not listed, the first of them by name
 function unlistedText(left, word) {
-  const kinds = [[left.filter((r) => r.library), "of the C library"], [left.filter((r) => !r.named), "without a name"]]
+  const kinds = [[left.filter((r) => r.library), `of the ${profile.library}`], [left.filter((r) => !r.named), "without a name"]]
     .filter(([some]) => some.length).map(([some, what]) => `${count(some.length)} ${what}`);
   const first = [...left.filter((r) => r.many), ...left.filter((r) => !r.many)];
   const names = first.slice(0, 3).map((r) => `${r.name} ${r.many ? "∗" : ""}${times(r.growth)}`).join(", ");
@@ -130,7 +130,7 @@ function unlistedText(left, word) {
 
 // what is to be cleared and ticked so that routines are listed
 function wayToSee(left, word) {
-  const boxes = [["cheap", "“below 1 %”"], ["library", "“C library”"]]
+  const boxes = [["cheap", "“below 1 %”"], ["library", `“${profile.library}”`]]
     .filter(([box]) => !byId(box).checked && left.some((r) => r[box])).map(([, name]) => name);
   return [word ? "clear the filter" : "", boxes.length ? `tick ${boxes.join(" and ")}` : ""].filter(Boolean).join(" and ");
 }
