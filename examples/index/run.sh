@@ -7,7 +7,7 @@ aprof run -o out/report.txt index ../words/text-{60,120,240,480,960}.txt > out/o
 diff output.txt out/output.txt
 diff report.txt out/report.txt
 if command -v c++filt > /dev/null; then
-  aprof show --by share --top 14 out/report.txt | diff show.txt -
+  aprof show out/report.txt | diff show.txt -
 else
   echo "examples/index: left out: show's names: no c++filt (Debian's package binutils)"
 fi

@@ -28,7 +28,7 @@ SUPERLINEAR = 2.3
 """Above this factor a growth counts as superlinear. n log n grows by 2.5 at 16 words, by 2.4 at 32, and by this at 102."""
 
 LEAST_LARGEST = 16
-"""Below this largest size no growth counts as superlinear: it is mostly one from case to case."""
+"""Below this largest size a growth is uncertain, and none is superlinear: it is mostly one from case to case."""
 
 LEAST_RATIO = 2
 """No estimate is made from sizes within this factor."""
@@ -163,7 +163,7 @@ def growth_by(spots: list[Spot], smooth: bool) -> Growth | None:
         weak=weakness(len(spots), ratio),
         rising=rising_slope(used, exponent) if smooth else None,
     )
-    if growth.is_steep and not growth.superlinear:
+    if growth.largest < LEAST_LARGEST:
         return replace(growth, weak=growth.weak or f"sizes below {LEAST_LARGEST}")
     if growth.is_steep and flattens(used):
         return replace(growth, weak=growth.weak or "less steep at the largest sizes")

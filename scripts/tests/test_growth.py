@@ -186,8 +186,8 @@ class FewPoints(unittest.TestCase):
                 self.assertEqual(growth.weak, weak)
 
     def test_small_sizes(self) -> None:
-        """From case to case a cost may jump: below 16 words that is not superlinear, and uncertain where it looks so."""
-        for most, curve, weak, superlinear in ((15, SQUARE, "sizes below 16", False), (16, SQUARE, None, True), (15, LINEAR, None, False)):
+        """From case to case a cost may jump: below 16 words no growth is superlinear, and each is uncertain."""
+        for most, curve, weak, superlinear in ((15, SQUARE, "sizes below 16", False), (16, SQUARE, None, True), (15, LINEAR, "sizes below 16", False)):
             with self.subTest(most=most, weak=weak):
                 growth = growth_of(points_of([(size, curve(size)) for size in range(2, most + 1)]))
                 assert growth

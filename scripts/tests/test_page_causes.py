@@ -86,7 +86,7 @@ class Causes(PageCase):
             (profile_of(*map(linear, SIZES)), [dash]),
             (profile_of(*map(squares, SIZES[:3])), [f"superlinear, but {uncertain}", dash]),
             (made.profile("report"), [superlinear, rising, dash]),
-            (profiles.sample("budget"), [superlinear, f"superlinear, but {uncertain}", dash, "at least: a call was still open"]),
+            (profiles.sample("budget"), [superlinear, f"superlinear, but {uncertain}", uncertain, dash, "at least: a call was still open"]),
         ]
         for profile, wanted in cases:
             with self.subTest(wanted):
