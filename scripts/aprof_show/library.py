@@ -24,7 +24,7 @@ def library_routines(reports: Sequence[Report], routines: Sequence[Routine]) -> 
     """Those of `routines`, which the reports have joined, that are the libraries'. None where nothing else would be left."""
     names = musl_names()
     places = {place for report in reports for place in last_of_library(report.routines, names)}
-    found = {routine for routine in routines if (routine.entry, routine.name) in places or is_of_cxx(routine.name)}
+    found = {routine for routine in routines if (routine.entry, routine.name) in places or is_in_std(routine.name)}
     return found if len(found) < len(routines) else set()
 
 
@@ -33,7 +33,7 @@ def last_of_library(routines: Sequence[Routine], names: frozenset[str]) -> list[
     without a name among them, such as the start of a thread, is the library's too."""
     places: list[tuple[int, str | None]] = []
     for routine in sorted(routines, key=lambda routine: -routine.entry):
-        if routine.name is not None and routine.name not in names and not is_of_cxx(routine.name):
+        if routine.name is not None and routine.name not in names and not is_in_std(routine.name):
             break
         places.append((routine.entry, routine.name))
     while places and places[-1][1] is None:
@@ -41,10 +41,10 @@ def last_of_library(routines: Sequence[Routine], names: frozenset[str]) -> list[
     return places if sum(name is not None for _, name in places) >= FEWEST else []
 
 
-def is_of_cxx(name: str | None) -> bool:
+def is_in_std(name: str | None) -> bool:
     return OF_CXX.match(name or "") is not None
 
 
 def library_text(routines: Iterable[Routine]) -> str:
     """What the library of these routines is called; that of C++ has the one of C in it."""
-    return "C++ library" if any(is_of_cxx(routine.name) for routine in routines) else "C library"
+    return "C++ library" if any(is_in_std(routine.name) for routine in routines) else "C library"

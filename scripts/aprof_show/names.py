@@ -26,7 +26,7 @@ def plain(name: str) -> str:
 def brief_of(name: str, arguments: bool = False, parameters: bool = False) -> str:
     """`void std::__1::sort<int*>(int*, int*)` is `std::sort<>`, with the template arguments `std::sort<int*>`, with the
     parameters `std::sort<>(int*, int*)`. A name of another form is only made plain."""
-    text = plain(name)
+    text = without_own(plain(name))
     head = head_of(text, arguments)
     if head is None:
         return text
@@ -37,7 +37,7 @@ def brief_of(name: str, arguments: bool = False, parameters: bool = False) -> st
     behind = end_of(text, end)
     local = LOCAL.match(text, behind)
     if local:
-        return f"{brief}()::{brief_of(without_own(text[local.end():]), arguments, parameters)}"
+        return f"{brief}()::{brief_of(text[local.end():], arguments, parameters)}"
     return brief + (collapsed(text[end:behind]) if parameters else "")
 
 
@@ -66,10 +66,11 @@ def end_of(text: str, place: int) -> int:
 
 
 def without_own(text: str) -> str:
-    """`{lambda(int)#1}::operator()` without the parameters of the lambda."""
-    if not text.startswith("{lambda("):
-        return text
-    return "{lambda" + text[end_of(text, len("{lambda")):]
+    """Each `{lambda(int)#1}` without the parameters of the lambda."""
+    while (place := text.find("{lambda(")) >= 0:
+        place += len("{lambda")
+        text = text[:place] + text[end_of(text, place):]
+    return text
 
 
 def collapsed(text: str) -> str:

@@ -71,6 +71,7 @@ class Names(unittest.TestCase):
             ("f(int)::Local::g(char)", "f()::Local::g"),
             ("A::f(int) const::{lambda(int)#1}::operator()(int) const", "A::f()::{lambda#1}::operator()"),
             ("void sort<A<int>::f() const::{lambda(int)#1}&>(int*, A<int>::f() const::{lambda(int)#1}&)", "sort<>"),
+            ("main::{lambda(int (*)(char))#2}::operator()(int) const", "main::{lambda#2}::operator()"),
             ("bool operator< <int>(A<int> const&)", "operator< <>"),
             ("decltype(auto) f<int>()", "decltype(auto) f<int>()"),
         ):
