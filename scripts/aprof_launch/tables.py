@@ -24,7 +24,7 @@ NO_START = "17 comes also where there is no `_start`: link a C library, or inclu
 
 REMARKS = {
     3: " (a null pointer, or one that is wrong)",
-    4: " (a null pointer, a recursion whose stack is full, no memory left for `malloc`, musl's `abort` or a failed `assert`)",
+    4: " (a null pointer, a recursion whose stack is full, no memory left for `malloc` or `new`, musl's `abort` or a failed `assert`)",
 }
 FAULTS = {kind: f"{what}{REMARKS.get(kind, '')}" for kind, what in enumerate(ends.FAULTS, 1)}
 

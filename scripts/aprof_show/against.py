@@ -4,6 +4,7 @@ from __future__ import annotations
 from collections import Counter
 from collections.abc import Collection, Iterator, Mapping, Sequence
 from dataclasses import dataclass
+from enum import Enum
 
 from aprof_show.growth import Growth, growth_of
 from aprof_show.joining import Key, add_points, at_one_place
@@ -39,32 +40,42 @@ class Pair:
 
 
 def paired(old: Sequence[Row], new: Sequence[Row]) -> list[Pair]:
-    """By name. Several routines of one name, static functions, are paired by their address in one image; in two, by their order
-    if each has as many. Routines without a name aren't paired: another image has other addresses."""
-    before, after = ([(row.routine.entry, row.routine.name) for row in rows] for rows in (old, new))
-    one_image = at_one_place([[place for place in places if place[1]] for places in (before, after)])
-    counts = [Counter(name for _, name in places) for places in (before, after)]
-    numbers = {name: {count[name] for count in counts} - {0} for name in counts[0] | counts[1]}
-    left = dict(keyed(old, numbers, one_image))
-    pairs = [Pair(left.pop(key, None), row) for key, row in keyed(new, numbers, one_image)]
+    """By name. Several routines of one name, static functions, are paired by their address where both are of one image, or else
+    by their order if each has as many. Routines without a name aren't paired: another image has other addresses."""
+    listings = [[(row.routine.entry, row.routine.name) for row in rows if row.routine.name] for rows in (old, new)]
+    one_image = at_one_place(listings)
+    entries: dict[str | None, tuple[set[int], set[int]]] = {}
+    for place, listing in enumerate(listings):
+        for entry, name in listing:
+            entries.setdefault(name, (set(), set()))[place].add(entry)
+    ways = {name: way_of(before, after, one_image) for name, (before, after) in entries.items()}
+    left = dict(keyed(old, ways))
+    pairs = [Pair(left.pop(key, None), row) for key, row in keyed(new, ways)]
     return pairs + [Pair(row, None) for row in left.values()]
 
 
-def keyed(rows: Sequence[Row], numbers: Mapping[str | None, set[int]], one_image: bool) -> Iterator[tuple[Key, Row]]:
-    """`numbers` says how many routines have a name: two numbers where the old ones and the new ones differ in it."""
+class Way(Enum):
+    """What tells routines of one name apart."""
+
+    ORDER = 0
+    ADDRESS = 1
+    NOTHING = 2
+
+
+def way_of(before: set[int], after: set[int], one_image: bool) -> Way:
+    if len(before | after) > 1 and one_image and (before <= after or after <= before):
+        return Way.ADDRESS
+    return Way.ORDER if len(before) == len(after) else Way.NOTHING
+
+
+def keyed(rows: Sequence[Row], ways: Mapping[str | None, Way]) -> Iterator[tuple[Key, Row]]:
     seen: Counter[str] = Counter()
     for row in rows:
-        name = row.routine.name
-        if name is None:
-            yield (id(row),), row
-        elif numbers[name] == {1}:
-            yield (name,), row
-        elif one_image:
-            yield (name, row.routine.entry), row
-        elif len(numbers[name]) > 1:
+        name, way = row.routine.name, ways.get(row.routine.name, Way.NOTHING)
+        if name is None or way is Way.NOTHING:
             yield (id(row),), row
         else:
-            yield (name, seen[name]), row
+            yield (name, row.routine.entry if way is Way.ADDRESS else seen[name]), row
             seen[name] += 1
 
 

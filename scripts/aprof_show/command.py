@@ -7,7 +7,7 @@ import sys
 from collections.abc import Iterable, Sequence
 
 from aprof_show import called, page
-from aprof_show.against import against_text
+from aprof_show.against import against_text, paired
 from aprof_show.cache import cache_text
 from aprof_show.data import csv_text, json_text
 from aprof_show.detail import detail, notes
@@ -98,7 +98,7 @@ def caches_text(reports: Sequence[Report | CacheReport], options: argparse.Names
         raise CannotJoin("reports of `aprof cache` can't be joined with others")
     warn(repeated(caches))
     cache = join_caches(caches)
-    routines = [Routine(routine.entry, routine.name) for routine in cache.routines]
+    routines = [Routine(routine.entry, routine.name, apart=routine.apart) for routine in cache.routines]
     if options.image:
         name_routines(routines, read_symbols(options.image), options.image)
     demangle(routines)
@@ -167,6 +167,9 @@ def compare(options: argparse.Namespace, new: Profile, names: Sequence[str]) -> 
     tell_alike(old.routines)
     old_rows, new_rows = rows_of(old), rows_of(new)
     wanted = all_named([*new.routines, *old.routines], names)
+    for pair in paired(old_rows, new_rows):
+        both = {row.routine for row in (pair.old, pair.new) if row}
+        wanted |= both if both & wanted else set()
     check(options, names, kind_of(options, names))
     for reports in (old.reports, new.reports):
         warn([*repeated(reports), *strangers(reports), *without_contexts(reports)])

@@ -112,8 +112,15 @@ SMALL_SPREAD, LARGE_SPREAD, CLEARLY = 1.5, 2.0, 0.15
 
 
 def growth_of(points: Sequence[Point]) -> Growth | None:
-    """The growth of the greatest cost, or of the mean where the greatest misleads; None where there is at most one size
-    other than 0."""
+    """None where there is at most one size other than 0."""
+    growth = growth_of_some_cost(points)
+    if growth and growth.largest < LEAST_LARGEST:
+        return replace(growth, weak=growth.weak or f"sizes below {LEAST_LARGEST}")
+    return growth
+
+
+def growth_of_some_cost(points: Sequence[Point]) -> Growth | None:
+    """The growth of the greatest cost, or of the mean where the greatest misleads."""
     spread = spread_of(points)
     growth = growth_by(spots_of(points, lambda point: point.most), spread < SMALL_SPREAD)
     if growth is None or growth.weak or growth.exponent >= LINEAR or spread < LARGE_SPREAD:
@@ -163,8 +170,6 @@ def growth_by(spots: list[Spot], smooth: bool) -> Growth | None:
         weak=weakness(len(spots), ratio),
         rising=rising_slope(used, exponent) if smooth else None,
     )
-    if growth.largest < LEAST_LARGEST:
-        return replace(growth, weak=growth.weak or f"sizes below {LEAST_LARGEST}")
     if growth.is_steep and flattens(used):
         return replace(growth, weak=growth.weak or "less steep at the largest sizes")
     return growth

@@ -81,6 +81,6 @@ def unplaced_text(profile: Profile, costs: Mapping[Context, Cost]) -> str:
     more = profile.still_open - sum(cost.opens for cost in costs.values())
     if more <= 0:
         return ""
-    returned, others = ("routines that had returned", "other threads") if more > 1 else ("a routine that had returned", "another thread")
-    calls = plural(more, "more open call")
-    return f"and {calls}, of {returned} before or of {others} in the same calls: the report can't tell where they stand"
+    if more == 1:
+        return "1 more open call is in no stack: its routine had returned there before, or another thread has the same stack"
+    return f"{more} more open calls are in no stack: their routines had returned there before, or other threads have the same stacks"

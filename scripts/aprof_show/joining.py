@@ -9,6 +9,7 @@ from __future__ import annotations
 
 from collections import Counter
 from collections.abc import Iterable, Iterator, Sequence
+from dataclasses import replace
 
 from aprof_show.model import CacheReport, CacheRoutine, Context, Point, Profile, Report, Routine, sum_of_parts
 
@@ -175,12 +176,12 @@ def join_caches(reports: Sequence[CacheReport]) -> CacheReport:
     for report, keys in zip(reports, keys_of(listings, one_image)):
         for routine, key in zip(report.routines, keys):
             there = sums.get(key)
-            sums[key] = add_accesses(there, routine) if there else routine
+            is_apart = routine.name is None and not one_image
+            sums[key] = add_accesses(there, routine) if there else replace(routine, apart=report.path if is_apart else None)
     ends = {report.end for report in reports}
     end = ends.pop() if len(ends) == 1 else "of several kinds"
     return CacheReport(", ".join(report.path for report in reports), end, sum(r.steps for r in reports), list(sums.values()))
 
 
 def add_accesses(one: CacheRoutine, other: CacheRoutine) -> CacheRoutine:
-    name = one.name or other.name
-    return CacheRoutine(one.entry, name, one.accesses + other.accesses, one.misses + other.misses)
+    return replace(one, name=one.name or other.name, accesses=one.accesses + other.accesses, misses=one.misses + other.misses)

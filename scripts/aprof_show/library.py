@@ -11,8 +11,9 @@ from aprof_show.model import Report, Routine
 FEWEST = 4
 """So many of the library's names behind one another are no chance: any program with it has its start and its end."""
 
-OF_CXX = re.compile(r"_Z+(N[rVK]*[RO]?S[abdiost]|St|N[rVK]*10__cxxabiv1|nw|na|dl|da)|__cxa_")
-"""How names of the C++ library begin: those in `std` and in `__cxxabiv1`, and `operator new` and `delete`."""
+OF_CXX = re.compile(r"_Z+(?:T[hv][n0-9_]+)?(N[rVK]*[RO]?S[abdiost]|St|N[rVK]*10__cxxabiv1|nw|na|dl|da)|__cxa_")
+"""How names of the C++ library begin: those in `std` and in `__cxxabiv1`, `operator new` and `delete`, and what compiled code
+calls (`__cxa_atexit`)."""
 
 
 def musl_names() -> frozenset[str]:
@@ -30,15 +31,20 @@ def library_routines(reports: Sequence[Report], routines: Sequence[Routine]) -> 
 
 def last_of_library(routines: Sequence[Routine], names: frozenset[str]) -> list[tuple[int, str | None]]:
     """The routines behind the last one that isn't the library's: a program's own objects are linked before it. A routine
-    without a name among them, such as the start of a thread, is the library's too."""
+    without a name among them, such as the start of a thread, is the library's too, and so is an initialiser of C++."""
     places: list[tuple[int, str | None]] = []
     for routine in sorted(routines, key=lambda routine: -routine.entry):
-        if routine.name is not None and routine.name not in names and not is_in_std(routine.name):
+        if not is_anyones(routine.name) and routine.name not in names and not is_in_std(routine.name):
             break
         places.append((routine.entry, routine.name))
-    while places and places[-1][1] is None:
+    while places and is_anyones(places[-1][1]):
         places.pop()
-    return places if sum(name is not None for _, name in places) >= FEWEST else []
+    return places if sum(not is_anyones(name) for _, name in places) >= FEWEST else []
+
+
+def is_anyones(name: str | None) -> bool:
+    """Whether a name doesn't tell whose the routine is."""
+    return name is None or name.startswith("_GLOBAL__")
 
 
 def is_in_std(name: str | None) -> bool:

@@ -72,8 +72,12 @@ def cut_short(profile: Profile) -> Iterator[str]:
     """A warning about runs that did not end as one wants them to: the calls that matter may be missing."""
     ends = [f"{report.path} ({report.end})" for report in profile.reports if report.end != "exit 0"]
     if ends:
-        rest = [f"{len(ends) - NAMED} more"] if len(ends) > NAMED else []
-        yield f"{listed([*ends[:NAMED], *rest])} did not end with exit code 0: what is missing there is not judged"
+        yield f"{first_of(ends)} did not end with exit code 0: what is missing there is not judged"
+
+
+def first_of(texts: Sequence[str]) -> str:
+    """The first ones of many, and how many more there are."""
+    return listed([*texts[:NAMED], *[f"{len(texts) - NAMED} more"] * (len(texts) > NAMED)])
 
 
 def of_one_input(profile: Profile, rows: Sequence[Row], named: Collection[Routine], choice: Choice) -> Iterator[str]:
@@ -82,10 +86,8 @@ def of_one_input(profile: Profile, rows: Sequence[Row], named: Collection[Routin
         return
     unknown = [row for row in ordered(rows, "share") if row.growth is None and not row.library and is_dear(row, choice)]
     if unknown:
-        first = [cut(row.routine.label, 50) for row in unknown[:NAMED]]
-        rest = [f"{len(unknown) - NAMED} more"] if len(unknown) > NAMED else []
-        has = "has" if len(unknown) == 1 else "have"
-        yield f"{listed([*first, *rest])} {has} at most one size other than 0, so not judged: give reports of several inputs"
+        names, has = first_of([cut(row.routine.label, 50) for row in unknown]), "has" if len(unknown) == 1 else "have"
+        yield f"{names} {has} at most one size other than 0, so not judged: give reports of several inputs"
 
 
 def unjudged(rows: Sequence[Row], named: Collection[Routine]) -> Iterator[str]:

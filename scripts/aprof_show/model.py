@@ -123,10 +123,13 @@ class Report:
 
 @dataclass(frozen=True)
 class CacheRoutine:
+    """`apart` is the report of one without a name, where several reports of different images are joined."""
+
     entry: int
     name: str | None
     accesses: int
     misses: int
+    apart: str | None = None
 
 
 @dataclass

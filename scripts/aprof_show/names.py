@@ -8,7 +8,8 @@ from collections.abc import Iterator, Sequence
 from aprof_show.model import Routine
 
 OPERATOR = re.compile(
-    r"(?<!\w)operator(\(\)|\[\]| new\[\]| delete\[\]| new| delete|<=>|<<=|>>=|->\*|->|[-+*/%^&|!=<>~,]{1,2}| [^(<]*)?( (?=<))?"
+    r"(?<!\w)operator(\(\)|\[\]| new\[\]| delete\[\]| new| delete|<=>|<<=|>>=|->\*|->|<<|>>|&&|\|\||\+\+|--"
+    r"|[-+*/%^&|!=<>]=|[-+*/%^&|!=<>~,]| [^(<]*)?( (?=<))?"
 )
 
 LOCAL = re.compile(r"(?: const| volatile| &&?|\[[^]]*\])*::")
@@ -32,7 +33,7 @@ def brief_of(name: str, arguments: bool = False, parameters: bool = False) -> st
         return text
     kept, end = head
     brief = kept.rpartition(" ")[2].replace(SPACE, " ").strip()
-    if not re.match(r"[A-Za-z_~{]", brief) or kept.endswith("decltype"):
+    if not re.match(r"[A-Za-z_~{$']", brief) or kept.endswith("decltype"):
         return text
     behind = end_of(text, end)
     local = LOCAL.match(text, behind)
@@ -84,9 +85,9 @@ def collapsed(text: str) -> str:
 
 
 def shorten(routines: Sequence[Routine]) -> None:
-    """Gives routines of C++ the shortest name that tells them from those of other names."""
+    """Gives routines of C++ the shortest name that tells them from those of other names, where it is shorter than the whole."""
     left = [routine for routine in routines if is_of_cxx(routine)]
-    names = [plain(routine.shown or "") for routine in left]
+    names = [routine.shown or "" for routine in left]
     for forms in zip(*map(forms_of, names)):
         taken = [routine.label for routine in routines if routine.brief or not is_of_cxx(routine)]
         counts = Counter([*taken, *(form for _, form in set(zip(names, forms)))])

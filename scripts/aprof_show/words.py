@@ -43,6 +43,10 @@ PAGE_MARK = b'<meta name="generator" content="aprof show">'
 BEHIND_CALLERS = "the routine goes directly after --callers: --callers ROUTINE REPORT..."
 
 
+MOST = 5
+"""So many names are told that may have been meant."""
+
+
 class Refused(Exception):
     """The command can't be carried out."""
 
@@ -148,7 +152,7 @@ def named(routines: Collection[Routine], name: str) -> list[Routine]:
     found = found or [routine for routine in routines if routine.is_at(name)]
     if not found:
         meant = [routine.label for routine in routines if routine.shown and brief_of(routine.shown) == name]
-        near = meant or nearest(name, [routine.label for routine in routines])
+        near = meant[:MOST] or nearest(name, [routine.label for routine in routines])
         there = "; there " + ("is " if len(near) == 1 else "are ") + listed(near) if near else ""
         raise Refused(f"no file and no routine called {name}{there} (--all lists them)")
     return found
@@ -159,7 +163,7 @@ def nearest(name: str, labels: list[str]) -> list[str]:
     nearly alike."""
     having = {label for label in labels if name in label}
     if having:
-        return sorted(having, key=lambda label: (not label.startswith(name), len(label), label))[:5]
+        return sorted(having, key=lambda label: (not label.startswith(name), len(label), label))[:MOST]
     return get_close_matches(name, labels, 1)
 
 

@@ -78,13 +78,18 @@ class Keys(unittest.TestCase):
         self.assertEqual(labels, {"main": 2, "helper (00010180)": 1, "helper (000101c0)": 2})
 
     def test_statics_before_and_after(self) -> None:
-        """By address in one image; in two by their order, or not at all where one has fewer."""
+        """By address in one image; in two by their order, or not at all where one has fewer. One of its name is paired anyhow."""
         both = Run([Call("main", calls=[Call("helper@1"), Call("helper@2")])], ADDRESSES)
         second = Run([Call("main", calls=[Call("helper@2")])], ADDRESSES)
+        names = [name for name in ADDRESSES if not name.startswith("helper")]
+        several = Run([Call("main", calls=list(map(Call, [*names[1:], "helper@1", "helper@2"])))], ADDRESSES)
+        a_little = ADDRESSES | {"helper@2": ADDRESSES["helper@2"] + 8}
+        same = {(f"{ADDRESSES[name]:x}", f"{ADDRESSES[name]:x}") for name in names}
         for old, new, pairs in (
             (both, second, {("10000", "10000"), ("10180", ""), ("101c0", "101c0")}),
             (both, replace(both, addresses=MOVED), {("10000", "10004"), ("10180", "1019c"), ("101c0", "101e0")}),
             (both, replace(second, addresses=MOVED), {("10000", "10004"), ("10180", ""), ("101c0", ""), ("", "101e0")}),
+            (several, replace(several, addresses=a_little), {("10180", "10180"), ("101c0", "101c8"), *same}),
         ):
             rows = [rows_of(join([report_of(run.text())])) for run in (old, new)]
             told = {tuple(f"{row.routine.entry:x}" if row else "" for row in (pair.old, pair.new)) for pair in paired(*rows)}
@@ -96,6 +101,16 @@ class Keys(unittest.TestCase):
         joined = join_caches([cache for cache in caches if isinstance(cache, CacheReport)])
         told = [(routine.entry, routine.accesses, routine.misses) for routine in joined.routines]
         self.assertEqual(told, [(0x10180, 4, 1), (0x101C0, 14, 5)])
+
+    def test_caches_of_two_images(self) -> None:
+        """What has no name there is told by its report; in one image another report has its name."""
+        texts = ("00010180 f|4 1|routine 000101c0 -|9 2|done 2|", "00010180 g|4 1|routine 000101c0 -|5 3|done 2|", "000101c0 h|1 1|done 1|")
+        caches = [read_text("aprof cache 1|end exit 0|steps 9|routine ".replace("|", "\n") + text.replace("|", "\n")) for text in texts]
+        first, second, third = [replace(cache, path=f"c{n}") for n, cache in enumerate(caches) if isinstance(cache, CacheReport)]
+        told = [(routine.name, routine.apart, routine.accesses) for routine in join_caches([first, second]).routines]
+        self.assertEqual(told, [("f", None, 4), (None, "c0", 9), ("g", None, 4), (None, "c1", 5)])
+        told = [(routine.name, routine.apart, routine.accesses) for routine in join_caches([first, third]).routines]
+        self.assertEqual(told, [("f", None, 4), ("h", None, 10)])
 
     def test_without_names(self) -> None:
         call = Call("main", calls=[Call("leaf")])
@@ -147,4 +162,4 @@ class CutOff(unittest.TestCase):
         """The calls of both runs stand in the chain; in each run one more is open, of a routine that had returned there."""
         lines = open_lines(self.joined(self.CUT, self.CUT, self.WHOLE), 200)
         self.assertEqual(lines[0], "open at the end: main > parse")
-        self.assertTrue(lines[-1].startswith("and 2 more open calls, of routines"))
+        self.assertTrue(lines[-1].startswith("2 more open calls are in no stack: "))

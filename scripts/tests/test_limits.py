@@ -3,6 +3,7 @@ from __future__ import annotations
 
 import tempfile
 import unittest
+from dataclasses import replace
 from pathlib import Path
 
 from tests.samples import ADDRESSES, Call, Run
@@ -42,6 +43,21 @@ class Limits(unittest.TestCase):
                 one = "show: warning: parse has at most one size other than 0, so its growth is not known, and not judged\n"
                 self.assertEqual(warned(*paths, "--fail-above", "9", "--routine", "parse"), run + one)
                 self.assertEqual(warned(*paths, "--fail-above", "9"), run)
+
+    def test_runs_that_did_not_end_well(self) -> None:
+        runs = [replace(RISING, end="exit 3"), RISING, *[CUT_OFF] * 3]
+        self.assertRegex(
+            warned(*self.paths(False, *runs), "--fail-above", "9"),
+            r"^show: warning: [^ ]*r0 \(exit 3\), [^ ]*r2 \(budget\), [^ ]*r3 \(budget\) and 1 more did not end with exit code 0: ",
+        )
+
+    def test_a_name_that_changed(self) -> None:
+        """What is named as it was before is judged as it is now, though its short name is another."""
+        names = {name: 0x10000 + 16 * place for place, name in enumerate(("main", "_ZN1QI1AE3popEv", "_ZN1QI1BE3popEv"))}
+        growing = [Call("_ZN1QI1AE3popEv", size, size * size) for size in SIZES]
+        old, new = Run([Call("main", calls=growing)], names), Run([Call("main", calls=[*growing, Call("_ZN1QI1BE3popEv")])], names)
+        paths = self.paths(False, old, new)
+        self.assertIn("Q<A>::pop grows x4.0", show("--against", *paths, "--fail-above", "3", "Q<>::pop", status=1))
 
     def test_what_is_not_judged(self) -> None:
         """Routines of one size where there is one report, and those of uncertain growth."""

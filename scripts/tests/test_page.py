@@ -42,6 +42,8 @@ class Pages(PageCase):
         made.context(name, made.context("main", None, []), [])
         self.open(made.profile("report", end="budget", still_open=2))
         self.assertEqual(self.ask(text_of("#open")), f"Still open at the end: main › {name}")
+        self.open(made.profile("report", end="budget", still_open=3))
+        self.assertIn("\n1 more open call is in no stack: ", str(self.ask(text_of("#open"))))
 
     def test_the_first_routine_is_shown_with_what_is_known_of_it(self) -> None:
         self.open(profiles.sample())

@@ -112,6 +112,10 @@ class Causes(PageCase):
         told = str(self.ask(text_of("#unlisted")))
         self.assertRegex(told, r"^Not listed: 6 marked \(6 of the C library, 1 without a name\): .* and 3 more\.")
         self.assertIn("To see them, tick “C library”.", told)
+        made.context("_Znwj", root, profiles.points_of(profiles.over(8, 900, 8), lambda n: n * n))
+        self.open(made.profile("report"))
+        told = str(self.ask(text_of("#unlisted")))
+        self.assertRegex(told, r"\(7 of the C\+\+ library, .* tick “C\+\+ library”\.$")
         self.browser.click("#library")
         self.assertEqual(self.ask(HIDDEN.format("#unlisted")), True)
 

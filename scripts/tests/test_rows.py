@@ -119,8 +119,16 @@ class Listed(unittest.TestCase):
     def test_the_library_of_cxx(self) -> None:
         """What is in `std` is the library's wherever it stands: a program's own objects have its templates."""
         own = ["main", "_ZN5store3getEi", "_ZN5StoreC2Ev", "_ZN3nowEv", "_ZZ4mainENK3$_0clEv"]
-        library = ["_ZNSt3__16vectorIiE3endEv", "_ZNKSt3__16vectorIiE3endEv", "_ZSt9terminatev", "_Znwj", "_ZdlPv", "__cxa_atexit"]
+        library = ["_ZNSt3__16vectorIiE3endEv", "_ZNKSt3__16vectorIiE3endEv", "_ZSt9terminatev", "_ZThn8_NSt3__16streamD1Ev"]
+        library += ["_Znwj", "_Znaj", "_ZdlPv", "_ZdaPv", "__cxa_atexit", "_ZN10__cxxabiv112__unexpectedEv"]
         addresses = {name: 0x10000 + 16 * place for place, name in enumerate([*library, *own])}
         profile = join([report_of(Run([Call("main", calls=list(map(Call, [*library, *own])))], addresses).text())])
         self.assertEqual({row.routine.name for row in rows_of(profile) if row.library}, set(library))
-        self.assertIn("and 6 C++ library routines", "\n".join(summary(profile, rows_of(profile), Choice(), 80)))
+        self.assertIn(f"and {len(library)} C++ library routines", "\n".join(summary(profile, rows_of(profile), Choice(), 80)))
+
+    def test_the_library_goes_on_behind_that_of_cxx(self) -> None:
+        """An initialiser of C++ doesn't end it, and the program's own one is no part of it."""
+        names = ["main", "_GLOBAL__sub_I_main.cpp", "_start", "malloc", "_GLOBAL__I_000100", "_ZNSt3__14initEv", "free", "memcpy"]
+        addresses = {name: 0x10000 + 16 * place for place, name in enumerate(names)}
+        profile = join([report_of(Run([Call("main", calls=list(map(Call, names)))], addresses).text())])
+        self.assertEqual({row.routine.name for row in rows_of(profile) if row.library}, set(names[2:]))

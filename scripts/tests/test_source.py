@@ -73,6 +73,8 @@ class Names(unittest.TestCase):
             ("void sort<A<int>::f() const::{lambda(int)#1}&>(int*, A<int>::f() const::{lambda(int)#1}&)", "sort<>"),
             ("main::{lambda(int (*)(char))#2}::operator()(int) const", "main::{lambda#2}::operator()"),
             ("bool operator< <int>(A<int> const&)", "operator< <>"),
+            ("A<int> operator-<int>(A<int>)", "operator-<>"),
+            ("A::f(int)::$_0::operator()(int) const", "A::f()::$_0::operator()"),
             ("decltype(auto) f<int>()", "decltype(auto) f<int>()"),
         ):
             self.assertEqual(brief_of(name), brief)
@@ -83,10 +85,15 @@ class Names(unittest.TestCase):
         self.assertEqual([routine.label for routine in routines], ["add(int)", "add(double)", "sub"])
 
     def test_template_arguments_tell_apart(self) -> None:
-        names = ("Queue<Order>::pop()", "Queue<Other>::pop()", "Queue<Order>::~Queue()", "Queue<Order>::~Queue()")
-        routines = [Routine(place, f"_Z{place}", shown=name) for place, name in enumerate(names)]
+        cases = (
+            ("Queue<Order>::pop()", "Queue<Order>::pop"), ("Queue<Other>::pop()", "Queue<Other>::pop"),
+            ("Queue<Order>::~Queue()", "Queue<>::~Queue"), ("Queue<Order>::~Queue()", "Queue<>::~Queue"),
+            ("f(A<int> const&)", "f(A<> const&)"), ("f(B<int>)", "f(B<>)"), ("g(int)", "g(int)"),
+            ("run(int)", "run(int)"), ("(anonymous namespace)::run(int)", "(anonymous namespace)::run(int)"),
+        )  # fmt: skip
+        routines = [Routine(place, f"_Z{place}", shown=name) for place, (name, _) in enumerate(cases)] + [Routine(99, "g")]
         shorten(routines)
-        self.assertEqual([routine.label for routine in routines], ["Queue<Order>::pop", "Queue<Other>::pop", *["Queue<>::~Queue"] * 2])
+        self.assertEqual([routine.label for routine in routines], [label for _, label in cases] + ["g"])
         with self.assertRaisesRegex(Refused, "there are Queue<Order>::pop and Queue<Other>::pop "):
             named(routines, "Queue<>::pop")
 

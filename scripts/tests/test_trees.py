@@ -101,8 +101,7 @@ class OpenAtTheEnd(unittest.TestCase):
         lines = open_lines(profile, 80)
         self.assertLessEqual(max(map(len, lines)), 80)
         self.assertIn(
-            "and 3 more open calls, of routines that had returned before or of other threads in the same calls: "
-            "the report can't tell where they stand",
+            "3 more open calls are in no stack: their routines had returned there before, or other threads have the same stacks",
             " ".join(line.strip() for line in lines),
         )
 

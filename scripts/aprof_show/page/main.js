@@ -15,10 +15,10 @@ function tellHead() {
   const { chains } = profile;
   if (!routines.length) facts.push("no call has returned");
   byId("summary").textContent = facts.filter(Boolean).join(" · ");
-  byId("open").hidden = !chains.length;
   const told = chains.slice(0, 3).map((chain) => `Still open at the end: ${chain.join(" › ")}`);
   if (chains.length > 3) told.push(`and ${count(chains.length - 3)} more`);
   if (profile.unplaced) told.push(profile.unplaced);
+  byId("open").hidden = !told.length;
   byId("open").textContent = told.join("\n");
 }
 
